@@ -1,0 +1,6 @@
+pub mod Limits
+pub mod Node
+pub mod Bytes
+pub mod Rules
+pub mod Answer
+pub mod Read

@@ -1,0 +1,91 @@
+-- The refusals of reading, 2 to 12, in the table's order, and the reader's answer.
+-- Assumes nothing.
+use mathlib.Core.Path.{_≡_}
+use mathlib.Core.Bool.{Bool, not, _&&_, _||_}
+use mathlib.Core.List.{List, [], _∷_, _++_}
+use Prim.Native.Nat.{ℕ, zero, suc, _+_}
+use lib.ListN.{length}
+use lib.Dec.{eqb, ltb, leb}
+use Rattle.listing.specs.Limits.{ROUTINES, NODES, HEADING}
+use Rattle.listing.specs.Node.{Node, none}
+use Rattle.listing.specs.Bytes.{byte, versionOf, countF, countN, recordAt, nodeAt}
+use Rattle.listing.specs.Rules.{Rule, rule, Refusal, passed, refused, firstOf}
+use Rattle.listing.specs.Answer.{Answer, done, refusal}
+use Rattle.listing.specs.declared.ReadAnswer.{ReadAnswer}
+use Rattle.listing.specs.declared.ReadAnswer.the-variants.{Good, Refused}
+
+-- 3: "mark wrong"
+unfoldable pub wrongMark : List ℕ → Bool
+wrongMark s = not (eqb (byte s 0) 0x4F && eqb (byte s 1) 0x52 && eqb (byte s 2) 0x44)
+
+-- 5: "F is 0 or over 16"
+unfoldable pub wrongF : List ℕ → Bool
+wrongF s = eqb (countF s) 0 || ltb ROUTINES (countF s)
+
+unfoldable pub headingRules : List ℕ → List Rule
+headingRules s =
+    rule (ltb (length s) HEADING) 2 0
+    ∷ rule (wrongMark s) 3 0
+    ∷ rule (not (eqb (versionOf s) 1)) 4 0
+    ∷ rule (wrongF s) 5 0
+    ∷ rule (ltb NODES (countN s)) 6 0
+    ∷ rule (not (eqb (length s) (recordAt (countN s)))) 7 0
+    ∷ []
+
+-- 8: "node's routine not below F"
+unfoldable pub wrongRoutine : List ℕ → ℕ → Bool
+wrongRoutine s i = not (ltb (nodeAt s i .routine) (countF s))
+
+-- 9: "kind over 4"
+unfoldable pub wrongKind : List ℕ → ℕ → Bool
+wrongKind s i = ltb 4 (nodeAt s i .kind)
+
+-- 10: "kind 0 or 4 with a location other than 0"
+unfoldable pub wrongLocation : List ℕ → ℕ → Bool
+wrongLocation s i = (eqb (nodeAt s i .kind) 0 || eqb (nodeAt s i .kind) 4) && not (eqb (nodeAt s i .location) 0)
+
+-- 11: the successor x of node i is "neither 255 nor below N, or in another routine"
+unfoldable pub astray : List ℕ → ℕ → ℕ → Bool
+astray s i x = not (eqb x none) && (not (ltb x (countN s)) || not (eqb (nodeAt s x .routine) (nodeAt s i .routine)))
+
+unfoldable pub wrongSuccessor : List ℕ → ℕ → Bool
+wrongSuccessor s i = astray s i (nodeAt s i .first) || astray s i (nodeAt s i .second)
+
+-- 12: "second successor without a first, or not larger than it"
+unfoldable pub wrongOrder : List ℕ → ℕ → Bool
+wrongOrder s i = not (eqb (nodeAt s i .second) none) && (eqb (nodeAt s i .first) none || leb (nodeAt s i .second) (nodeAt s i .first))
+
+unfoldable pub nodeRules : List ℕ → ℕ → List Rule
+nodeRules s i =
+    rule (wrongRoutine s i) 8 i
+    ∷ rule (wrongKind s i) 9 i
+    ∷ rule (wrongLocation s i) 10 i
+    ∷ rule (wrongSuccessor s i) 11 i
+    ∷ rule (wrongOrder s i) 12 i
+    ∷ []
+
+-- "8 to 12 are all tried on node 0, then on node 1, and so on": the rules of k nodes from node i on
+abbrev pub nodesRules : List ℕ → ℕ → ℕ → List Rule
+nodesRules s i zero = []
+nodesRules s i (suc k) = nodeRules s i ++ nodesRules s (suc i) k
+
+-- the listing's refusals, 2 to 12
+unfoldable pub readRules : List ℕ → List Rule
+readRules s = headingRules s ++ nodesRules s 0 (countN s)
+
+-- a listing that the judge admits
+abbrev pub Admitted : List ℕ → Type 0
+Admitted s = firstOf (readRules s) ≡ passed
+
+-- the paper's number and values for each case of the reader's answer
+abbrev pub readSays : ReadAnswer → Answer
+readSays (Good n f) = done n f 0
+readSays (Refused k p) = refusal k p
+
+-- what reading answers: "N and F", or the refusal
+abbrev pub readBy : Refusal → ℕ → ℕ → Answer
+readBy passed n f = done n f 0
+readBy (refused k p) n f = refusal k p
+
+unfoldable pub readOf : List ℕ → Answer
+readOf s = readBy (firstOf (readRules s)) (countN s) (countF s)

@@ -1,0 +1,45 @@
+-- A table of refusals: rows of which the first that applies is taken. Every service has one, put together from the same parts.
+-- Assumes nothing.
+use mathlib.Core.Path.{_≡_}
+use mathlib.Core.Bool.{Bool, true, false, cond}
+use mathlib.Core.List.{List, [], _∷_}
+use Prim.Native.Nat.{ℕ, zero, suc}
+
+-- a row: "Refused because", "No." and "Place"
+pub record Rule : Type 0 where
+  pub when : Bool
+  pub number : ℕ
+  pub place : ℕ
+
+abbrev pub rule : Bool → ℕ → ℕ → Rule
+rule b k p = record { when = b; number = k; place = p }
+
+-- what a table says: nothing is refused, or the number and the place
+pub data Refusal : Type 0 where
+  passed : Refusal
+  refused : ℕ → ℕ → Refusal
+
+-- "Checks run in this order": the first row that applies
+abbrev pub firstOf : List Rule → Refusal
+firstOf [] = passed
+firstOf (r ∷ rs) = cond (r .when) (refused (r .number) (r .place)) (firstOf rs)
+
+-- "Each refusal is given exactly under its condition": a row of number k and place p applies, and no row before it does
+pub data First : List Rule → ℕ → ℕ → Type 0 where
+  here : {r : Rule} {rs : List Rule} → r .when ≡ true → First (r ∷ rs) (r .number) (r .place)
+  later : {r : Rule} {rs : List Rule} {k p : ℕ} → r .when ≡ false → First rs k p → First (r ∷ rs) k p
+
+-- no row applies
+abbrev pub NoneApplies : List Rule → Type 0
+NoneApplies [] = Unit
+NoneApplies (r ∷ rs) = (r .when ≡ false) × NoneApplies rs
+
+-- one table after another
+abbrev pub orElse : Refusal → Refusal → Refusal
+orElse passed y = y
+orElse (refused k p) y = refused k p
+
+-- the number by which a check of the code says its refusal: 0 where nothing is refused
+abbrev pub numbered : ℕ → ℕ → Refusal
+numbered zero p = passed
+numbered (suc k) p = refused (suc k) p

@@ -1,0 +1,7 @@
+pub mod Rows
+pub mod Walks
+pub mod Chains
+pub mod Need
+pub mod Verdict
+pub mod Steps
+pub mod Patched
