@@ -2,8 +2,10 @@
 ghost use mathlib.Core.Path.{_≡_};
 ghost use Prim.Native.Nat.{_+_, _*_, _<_, _≤_};
 ghost use lib.ListN.{length};
+ghost use lib.Seq.{sets};
+ghost use Rattle.listing.specs.Limits.{NODES, HEADING};
 ghost use Rattle.listing.specs.Node.{node};
-ghost use Rattle.listing.specs.Bytes.{countN, recordAt, nodesOf, Whole};
+ghost use Rattle.listing.specs.Bytes.{countN, recordAt, nodesOf, headingBytes, nodeBytes, Whole};
 
 // What the four limits belong to.
 pub struct Listing {
@@ -36,7 +38,7 @@ pub fn wide(b: u8) -> usize
 // How many nodes there are.
 pub fn node_count(bytes: &[u8]) -> usize
     requires { ⌜ Whole (now bytes) ⌝ }
-    ensures { λ r. ⌜ (r ≡ countN (now (bytes .entry))) × (r ≤ 128) ⌝ }
+    ensures { λ r. ⌜ (r ≡ countN (now (bytes .entry))) × (r ≤ NODES) ⌝ }
 {
     wide(bytes[6])
 }
@@ -76,4 +78,41 @@ pub fn second_at(bytes: &[u8], i: usize) -> u8
     ensures { λ r. ⌜ r ≡ node (nodesOf (now (bytes .entry))) i .second ⌝ }
 {
     bytes[Listing::HEADING + Listing::RECORD * i + 5]
+}
+
+// The heading of a listing of f routines and n nodes.
+pub fn put_heading(out: &mut [u8], f: u8, n: u8)
+    requires { ⌜ HEADING ≤ length (now out) ⌝ }
+    ensures { λ _. ⌜ now (out .exit) ≡ sets (now (out .entry)) 0 (headingBytes f n) ⌝ }
+{
+    out[0] = b'O';
+    out[1] = b'R';
+    out[2] = b'D';
+    out[3] = 1;
+    out[4] = 0;
+    out[5] = f;
+    out[6] = n;
+}
+
+// The record of node i.
+pub fn put_record(
+    out: &mut [u8],
+    i: usize,
+    routine: u8,
+    kind: u8,
+    location: usize,
+    first: u8,
+    second: u8,
+)
+    requires { ⌜ (i < NODES) × (location < 65536) × (recordAt (i + 1) ≤ length (now out)) ⌝ }
+    ensures { λ _. ⌜ now (out .exit) ≡ sets (now (out .entry)) (recordAt i)
+        (nodeBytes (record { routine = routine; kind = kind; location = location; first = first; second = second })) ⌝ }
+{
+    let at = Listing::HEADING + Listing::RECORD * i;
+    out[at] = routine;
+    out[at + 1] = kind;
+    out[at + 2] = (location % 256) as u8;
+    out[at + 3] = (location / 256) as u8;
+    out[at + 4] = first;
+    out[at + 5] = second;
 }
