@@ -3,11 +3,11 @@
 use mathlib.Core.Path.{_≡_}
 use mathlib.Core.Bool.{Bool, not, _&&_, _||_}
 use mathlib.Core.List.{List, [], _∷_, _++_}
-use Prim.Native.Nat.{ℕ, zero, suc, _+_}
+use Prim.Native.Nat.{ℕ, zero, suc}
 use lib.ListN.{length}
 use lib.Dec.{eqb, ltb, leb}
 use Rattle.listing.specs.Limits.{ROUTINES, NODES, HEADING}
-use Rattle.listing.specs.Node.{Node, none}
+use Rattle.listing.specs.Node.{none}
 use Rattle.listing.specs.Bytes.{byte, versionOf, countF, countN, recordAt, nodeAt}
 use Rattle.listing.specs.Rules.{Rule, rule, Refusal, passed, refused, firstOf}
 use Rattle.listing.specs.Answer.{Answer, done, refusal}
@@ -79,7 +79,7 @@ Admitted s = firstOf (readRules s) ≡ passed
 
 -- the paper's number and values for each case of the reader's answer
 abbrev pub readSays : ReadAnswer → Answer
-readSays (Good n f) = done n f 0
+readSays (Good l) = done (l .nodes) (l .routines) 0
 readSays (Refused k p) = refusal k p
 
 -- what reading answers: "N and F", or the refusal

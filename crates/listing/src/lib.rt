@@ -1,13 +1,16 @@
-// A listing of thread routines, version 1: its limits, and the fields of its records.
+// A listing of thread routines, version 1: its limits, the fields of its records, its reader, and the writer of its parts.
+mod rules;
+
 ghost use mathlib.Core.Path.{_≡_};
 ghost use Prim.Native.Nat.{_+_, _*_, _<_, _≤_};
 ghost use lib.ListN.{length};
 ghost use lib.Seq.{sets};
 ghost use Rattle.listing.specs.Limits.{NODES, HEADING};
 ghost use Rattle.listing.specs.Node.{node};
-ghost use Rattle.listing.specs.Bytes.{countN, recordAt, nodesOf, headingBytes, nodeBytes, Whole};
+ghost use Rattle.listing.specs.Bytes.{countF, countN, recordAt, nodesOf, headingBytes, nodeBytes, Whole};
+ghost use Rattle.listing.specs.Read.{readSays, readOf};
 
-// What the four limits belong to.
+// A listing that was read: its counts. The four limits are its own.
 pub struct Listing {
     pub nodes: usize,
     pub routines: usize,
@@ -23,8 +26,11 @@ impl Listing {
     pub const RECORD: usize = 6;
 }
 
+// A successor that is none.
+pub const NONE: u8 = 255;
+
 pub enum ReadAnswer {
-    Good { nodes: usize, routines: usize },
+    Good(Listing),
     Refused { number: u8, place: usize },
 }
 
@@ -41,6 +47,14 @@ pub fn node_count(bytes: &[u8]) -> usize
     ensures { λ r. ⌜ (r ≡ countN (now (bytes .entry))) × (r ≤ NODES) ⌝ }
 {
     wide(bytes[6])
+}
+
+// How many routines there are.
+pub fn routine_count(bytes: &[u8]) -> u8
+    requires { ⌜ Whole (now bytes) ⌝ }
+    ensures { λ r. ⌜ r ≡ countF (now (bytes .entry)) ⌝ }
+{
+    bytes[5]
 }
 
 // The fields of node i.
@@ -78,6 +92,27 @@ pub fn second_at(bytes: &[u8], i: usize) -> u8
     ensures { λ r. ⌜ r ≡ node (nodesOf (now (bytes .entry))) i .second ⌝ }
 {
     bytes[Listing::HEADING + Listing::RECORD * i + 5]
+}
+
+// A listing is read, or refused by the first of the refusals 2 to 12 that applies.
+pub fn read(bytes: &[u8]) -> ReadAnswer
+    ensures { λ r. ⌜ readSays r ≡ readOf (now (bytes .entry)) ⌝ }
+{
+    let number = rules::heading(bytes);
+    if number != 0 {
+        return ReadAnswer::Refused { number, place: 0 };
+    }
+    let nodes = node_count(bytes);
+    let mut i: usize = 0;
+    while i < nodes {
+        let number = rules::fault(bytes, i);
+        if number != 0 {
+            return ReadAnswer::Refused { number, place: i };
+        }
+        i += 1;
+    }
+    let routines = wide(routine_count(bytes));
+    ReadAnswer::Good(Listing { nodes, routines })
 }
 
 // The heading of a listing of f routines and n nodes.
