@@ -1,0 +1,80 @@
+-- A row whose relation looks at a key of its second entry only, made to have different keys.
+-- Assumes nothing.
+use mathlib.Core.Path.{_≡_, refl, sym, ap, subst}
+use mathlib.Core.Logic.{_⊎_, inl, inr}
+use mathlib.Core.List.{List, [], _∷_, _++_, map}
+use Prim.Native.Nat.{ℕ, suc, _+_, _<_}
+use native.Mathlib.Omega.{arith}
+use lib.ListN.{length, length-append}
+use Rattle.order.specs.Rows.{In, Different, Some, Row}
+use Rattle.order.proofs.Lists.{in-right, in?, row-after}
+
+module _ {A K : Type 0} (eqK : Discrete K) (key : A → K) where
+  in-keys : (xs : List A) (x : A) → In x xs → In (key x) (map key xs)
+  in-keys [] x i = i
+  in-keys (y ∷ ys) x (inl e) = inl (ap key e)
+  in-keys (y ∷ ys) x (inr i) = inr (in-keys ys x i)
+
+  -- entries with different keys are different
+  pub keys-different : (xs : List A) → Different (map key xs) → Different xs
+  keys-different [] d = tt
+  keys-different (x ∷ xs) d = (λ i. d .0 (in-keys xs x i), keys-different xs (d .1))
+
+  abbrev KeyCut : List A → K → Type 0
+  KeyCut xs k = (us : List A) × (w : A) × (vs : List A) × (xs ≡ us ++ (w ∷ vs)) × (k ≡ key w)
+
+  key-cut : (xs : List A) (k : K) → In k (map key xs) → KeyCut xs k
+  key-cut [] k i = absurd i
+  key-cut (x ∷ xs) k (inl e) = ([], x, xs, refl, e)
+  key-cut (x ∷ xs) k (inr i) = let c = key-cut xs k i in (x ∷ c .0, c .1, c .2, ap (λ (v : List A). x ∷ v) (c .3), c .4)
+
+  keys-right : (us vs : List A) → Different (map key (us ++ vs)) → Different (map key vs)
+  keys-right [] vs d = d
+  keys-right (u ∷ us) vs d = keys-right us vs (d .1)
+
+  module _ (r : A → A → Type 0) (by-key : (a x y : A) → r a x → key x ≡ key y → r a y) where
+    -- a row whose entries have different keys
+    pub record Keyed (a : A) (xs : List A) (z : A) : Type 0 where
+      pub inside : List A
+      pub row : Row r a inside z
+      pub different : Different (map key inside)
+      pub among : (x : A) → In x inside → In x xs
+      pub some : Some xs → Some inside
+      pub short : (length inside < length xs) ⊎ (inside ≡ xs)
+
+    -- A ROW HAS A ROW WITH DIFFERENT KEYS IN IT, SHORTER OR THE SAME
+    pub keyed : (a : A) (xs : List A) (z : A) → Row r a xs z → Keyed a xs z
+    keyed a [] z h = record { inside = []; row = h; different = tt; among = λ x i. i; some = λ s. s; short = inr refl }
+    keyed a (y ∷ ys) z h = go (keyed y ys z (h .1))
+      where
+        back : (s : Keyed y ys z) → KeyCut (s .inside) (key y) → Keyed a (y ∷ ys) z
+        back s c = record {
+          inside = c .1 ∷ c .2;
+          row = (by-key a y (c .1) (h .0) (c .4), row-after r y (c .0) (c .1) (c .2) z (subst (λ (l : List A). Row r y l z) (c .3) (s .row)));
+          different = keys-right (c .0) (c .1 ∷ c .2) (subst (λ (l : List A). Different (map key l)) (c .3) (s .different));
+          among = λ x i. inr (s .among x (subst (In x) (sym (c .3)) (in-right (c .0) (c .1 ∷ c .2) x i)));
+          some = λ t. tt;
+          short = inl (less (s .short));
+        }
+          where
+            less : (length (s .inside) < length ys) ⊎ (s .inside ≡ ys) → length (c .1 ∷ c .2) < length (y ∷ ys)
+            less (inl m) = omega (arith, m, simp length-append at (ap length (c .3)))
+            less (inr e) = omega (arith, ap length e, simp length-append at (ap length (c .3)))
+
+        pick : (s : Keyed y ys z) → Dec (In (key y) (map key (s .inside))) → Keyed a (y ∷ ys) z
+        pick s (yes i) = back s (key-cut (s .inside) (key y) i)
+        pick s (no n) = record {
+          inside = y ∷ s .inside;
+          row = (h .0, s .row);
+          different = (n, s .different);
+          among = λ x. elim [ inl e ↦ inl e | inr i ↦ inr (s .among x i) ];
+          some = λ t. tt;
+          short = keep (s .short);
+        }
+          where
+            keep : (length (s .inside) < length ys) ⊎ (s .inside ≡ ys) → (length (y ∷ s .inside) < length (y ∷ ys)) ⊎ ((y ∷ s .inside) ≡ (y ∷ ys))
+            keep (inl m) = inl (omega arith)
+            keep (inr e) = inr (ap (λ (v : List A). y ∷ v) e)
+
+        go : Keyed y ys z → Keyed a (y ∷ ys) z
+        go s = pick s (in? eqK (key y) (map key (s .inside)))
