@@ -1,7 +1,9 @@
 pub mod Bools
 pub mod Lists
+pub mod Tables
 pub mod Shorten
 pub mod Keys
 pub mod Laws
+pub mod Entries
 pub mod Rounds
 pub mod Least

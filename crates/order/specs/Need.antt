@@ -6,7 +6,7 @@ use Prim.Native.Nat.{ℕ}
 use lib.Dec.{T, eqb}
 use Rattle.listing.specs.Node.{Listing}
 use Rattle.order.specs.Rows.{All, In}
-use Rattle.order.specs.Walks.{kindAt, isRead, isWrite, isRmw, isFence, Walk}
+use Rattle.order.specs.Walks.{kindAt, isRead, isWrite, isRmw, isFence, isAccess, Walk}
 
 -- an entry of the need-for-order table: "one entry says need, leave, or leave unless RMW inside"
 pub data Entry : Type 0 where
@@ -23,6 +23,16 @@ entry q k₁ k₂ =
     (cond (eqb q 2) need
     (cond (eqb q 3) (cond (writeThenRead k₁ k₂) leaveUnlessRmw need)
     (cond (isWrite k₁) leave need)))
+
+-- the table of any two kinds: a node that is no access is left
+unfoldable pub entryOf : ℕ → ℕ → ℕ → Entry
+entryOf q k₁ k₂ = cond (isAccess k₁ && isAccess k₂) (entry q k₁ k₂) leave
+
+-- an entry's number in the code
+abbrev pub numberOf : Entry → ℕ
+numberOf leave = 0
+numberOf need = 1
+numberOf leaveUnlessRmw = 2
 
 -- "some walk between them has an RMW inside"
 abbrev pub RmwInside : Listing → ℕ → ℕ → Type 0

@@ -1,6 +1,41 @@
 // The rules of order on numbers: what the judge asks of two nodes at a time.
 ghost use mathlib.Core.Path.{_≡_};
+ghost use Prim.Native.Nat.{_<_, _≤_};
 ghost use Rattle.order.specs.Walks.{isAccess};
+ghost use Rattle.order.specs.Chains as chains;
+ghost use Rattle.order.specs.Need as table;
+
+// The need for order: 0 leave, 1 need, 2 leave unless an RMW is inside. By question, first kind and second kind.
+const NEED: [[[u8; 5]; 5]; 4] = [
+    [
+        [0, 0, 0, 0, 0],
+        [0, 0, 0, 0, 0],
+        [0, 1, 0, 0, 0],
+        [0, 0, 0, 0, 0],
+        [0, 0, 0, 0, 0],
+    ],
+    [
+        [0, 0, 0, 0, 0],
+        [0, 1, 1, 1, 0],
+        [0, 1, 1, 1, 0],
+        [0, 1, 1, 1, 0],
+        [0, 0, 0, 0, 0],
+    ],
+    [
+        [0, 0, 0, 0, 0],
+        [0, 1, 1, 1, 0],
+        [0, 2, 1, 1, 0],
+        [0, 1, 1, 1, 0],
+        [0, 0, 0, 0, 0],
+    ],
+    [
+        [0, 0, 0, 0, 0],
+        [0, 1, 1, 1, 0],
+        [0, 0, 0, 0, 0],
+        [0, 1, 1, 1, 0],
+        [0, 0, 0, 0, 0],
+    ],
+];
 
 // Kinds 1 to 3 are accesses.
 pub fn is_access(kind: u8) -> bool
@@ -13,4 +48,51 @@ pub fn is_access(kind: u8) -> bool
         return true;
     }
     kind == 3
+}
+
+// Two locations may meet: either is unknown, or they are equal.
+pub fn meets(x: usize, y: usize) -> bool
+    ensures { λ r. ⌜ r ≡ chains.overlap x y ⌝ }
+{
+    if x == 0 {
+        return true;
+    }
+    if y == 0 {
+        return true;
+    }
+    x == y
+}
+
+// Two locations surely meet: they are equal and name one cell.
+pub fn surely(x: usize, y: usize) -> bool
+    ensures { λ r. ⌜ r ≡ chains.surely x y ⌝ }
+{
+    if x != y {
+        return false;
+    }
+    if x == 0 {
+        return false;
+    }
+    x <= 32767
+}
+
+// A node of this kind inside is a barrier, by question and the kinds of the ends.
+pub fn bars(question: u8, first: u8, second: u8, kind: u8) -> bool
+    ensures { λ r. ⌜ r ≡ table.bars question first second kind ⌝ }
+{
+    if kind == 4 {
+        return true;
+    }
+    if question != 1 {
+        return false;
+    }
+    kind == 3
+}
+
+// What the table says of a pair, by question and the kinds of its ends.
+pub fn need(question: u8, first: u8, second: u8) -> u8
+    requires { ⌜ (1 ≤ question) × (question ≤ 4) × (first < 5) × (second < 5) ⌝ }
+    ensures { λ r. ⌜ r ≡ table.numberOf (table.entryOf question first second) ⌝ }
+{
+    NEED[(question - 1) as usize][first as usize][second as usize]
 }
