@@ -7,3 +7,4 @@ pub mod Laws
 pub mod Entries
 pub mod Rounds
 pub mod Least
+pub mod DemandThree
