@@ -8,3 +8,8 @@ pub mod Entries
 pub mod Rounds
 pub mod Least
 pub mod DemandThree
+pub mod Patch
+pub mod PatchWalk
+pub mod PatchFails
+pub mod PatchVerdict
+pub mod Propose

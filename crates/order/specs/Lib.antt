@@ -5,3 +5,4 @@ pub mod Need
 pub mod Verdict
 pub mod Steps
 pub mod Patched
+pub mod Proposed

@@ -1,0 +1,48 @@
+-- Judging the written listing is judging with the map, in the old numbers.
+-- Assumes nothing.
+use mathlib.Core.Logic.{_↔_}
+use mathlib.Core.List.{List}
+use Prim.Native.Nat.{ℕ, _≤_}
+use lib.ListN.{length}
+use Rattle.listing.specs.Node.{Listing}
+use Rattle.order.specs.Chains.{Ends}
+use Rattle.order.specs.Verdict.{Before, Shown, First, Verdict, robust, opened, Judged}
+use Rattle.order.specs.Patched.{Marks, patched}
+use Rattle.order.proofs.Patch.{Links}
+use Rattle.order.proofs.PatchFails.{FailsWith, patched-fails, fails-patched, chain→, chain←}
+
+-- the failing pair to show with the marked fences, in the old numbers
+pub record FirstWith (q : ℕ) (L : Listing) (ms : Marks) (p : Ends) : Type 0 where
+  pub fails : FailsWith q L ms (p .0) (p .1)
+  pub first : (a b : ℕ) → FailsWith q L ms a b → Before (a, b) p → ⊥
+
+abbrev pub JudgedWith : ℕ → Listing → Marks → Verdict → Type 0
+JudgedWith q L ms robust = (a b : ℕ) → FailsWith q L ms a b → ⊥
+JudgedWith q L ms (opened p rest) = FirstWith q L ms p × Shown L p rest
+
+module _ (q : ℕ) (L : Listing) (ms : Marks) (links : Links L) (small : length (patched L ms) ≤ 255) where
+  -- JUDGING THE WRITTEN LISTING IS JUDGING WITH THE MAP, chain included
+  pub judged-with : (v : Verdict) → Judged q (patched L ms) v ↔ JudgedWith q L ms v
+  judged-with robust = (λ h a b f. h a b (fails-patched L ms links small q a b f), λ h a b f. h a b (patched-fails L ms links small q a b f))
+  judged-with (opened p rest) = (
+    λ h. (
+      record {
+        fails = patched-fails L ms links small q (p .0) (p .1) (h .0 .fails);
+        first = λ a b f. h .0 .first a b (fails-patched L ms links small q a b f);
+      },
+      record {
+        chain = chain→ L ms links small p rest (h .1 .chain);
+        best = λ other c. h .1 .best other (chain← L ms links small p other c);
+      },
+    ),
+    λ h. (
+      record {
+        fails = fails-patched L ms links small q (p .0) (p .1) (h .0 .fails);
+        first = λ a b f. h .0 .first a b (patched-fails L ms links small q a b f);
+      },
+      record {
+        chain = chain← L ms links small p rest (h .1 .chain);
+        best = λ other c. h .1 .best other (chain→ L ms links small p other c);
+      },
+    ),
+  )
