@@ -1,9 +1,10 @@
 -- Tests that are computed, and what they say.
 -- Assumes nothing.
-use mathlib.Core.Path.{_≡_, refl}
+use mathlib.Core.Path.{_≡_, refl, subst}
 use mathlib.Core.Logic.{_⊎_, inl, inr}
 use mathlib.Core.Bool.{Bool, true, false, _&&_, _||_}
-use lib.Dec.{T}
+use Prim.Native.Nat.{ℕ}
+use lib.Dec.{T, eqb, eqb-refl}
 
 pub both : (a b : Bool) → T a → T b → T (a && b)
 both true b s t = t
@@ -25,6 +26,9 @@ one→ false b t = inr t
 pub T? : (b : Bool) → Dec (T b)
 T? true = yes tt
 T? false = no (λ t. t)
+
+pub eq→eqb : (m n : ℕ) → m ≡ n → T (eqb m n)
+eq→eqb m n e = subst (λ (k : ℕ). T (eqb m k)) e (eqb-refl m)
 
 -- A TEST HOLDS OR DOES NOT
 pub bool? : (b : Bool) → (b ≡ true) ⊎ (b ≡ false)

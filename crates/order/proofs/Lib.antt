@@ -13,3 +13,9 @@ pub mod PatchWalk
 pub mod PatchFails
 pub mod PatchVerdict
 pub mod Propose
+pub mod Orders
+pub mod Unique
+pub mod Search
+pub mod Decide
+pub mod Check
+pub mod Exists

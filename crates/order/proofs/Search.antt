@@ -1,0 +1,135 @@
+-- Rows over a finite list of entries are found by computation.
+-- Assumes nothing.
+use mathlib.Core.Path.{_≡_, refl, ap, subst}
+use mathlib.Core.Logic.{_⊎_, inl, inr}
+use mathlib.Core.List.{List, [], _∷_, _++_, map}
+use mathlib.Core.Bool.{Bool, false, _&&_, _||_}
+use Prim.Native.Nat.{ℕ, zero, suc, _≤_}
+use native.Mathlib.Omega.{arith}
+use native.Mathlib.Decide.{ℕ-discrete}
+use lib.Dec.{T}
+use lib.ListN.{length}
+use Rattle.order.specs.Rows.{All, In, Row}
+use Rattle.order.proofs.Bools.{both, both→, one, one→}
+use Rattle.order.proofs.Lists.{all-in, in-all, in-left, in-right, keepIf, keep, some, in-keepIf, in-keep, keep-in, some-in, in-some, pigeons}
+use Rattle.order.proofs.Shorten.{Simple, simple}
+
+module _ {A : Type 0} (univ : List A) (ok : A → Bool) (r : A → A → Bool) where
+  abbrev pub before : List A → List A
+  before s = keep (λ x. ok x && some (r x) s) univ
+
+  -- the entries with a row to z that has exactly k entries inside
+  abbrev pub back : ℕ → A → List A
+  back zero z = before (z ∷ [])
+  back (suc k) z = before (back k z)
+
+  -- a row with exactly k entries inside
+  abbrev pub hit : ℕ → A → A → Bool
+  hit zero a z = r a z
+  hit (suc k) a z = some (r a) (back k z)
+
+  -- a row with at most n entries inside; with 1 to n
+  abbrev pub hits₁ : ℕ → A → A → Bool
+  hits₁ zero a z = false
+  hits₁ (suc n) a z = hit (suc n) a z || hits₁ n a z
+
+  abbrev pub hits : ℕ → A → A → Bool
+  hits n a z = r a z || hits₁ n a z
+
+  abbrev R : A → A → Type 0
+  R a b = T (r a b)
+
+  abbrev pub Good : A → Type 0
+  Good x = In x univ × T (ok x)
+
+  abbrev pub Found : A → A → Type 0
+  Found a z = (xs : List A) × Row R a xs z × All Good xs
+
+  -- a row with at least one entry inside
+  abbrev pub Found₁ : A → A → Type 0
+  Found₁ a z = (y : A) × (ys : List A) × Row R a (y ∷ ys) z × All Good (y ∷ ys)
+
+  back-sound : (k : ℕ) (x z : A) → In x (back k z) → Good x × Found x z
+  back-sound zero x z i =
+      let g = keep-in (λ x. ok x && some (r x) (z ∷ [])) univ x i in
+      let h = both→ (ok x) (some (r x) (z ∷ [])) (g .1) in
+      let s = some-in (r x) (z ∷ []) (h .1) in
+      ((g .0, h .0), ([], subst (R x) (elim s.1 [ inl e ↦ e | inr j ↦ absurd j ]) (s .2), tt))
+  back-sound (suc k) x z i =
+      let g = keep-in (λ x. ok x && some (r x) (back k z)) univ x i in
+      let h = both→ (ok x) (some (r x) (back k z)) (g .1) in
+      let s = some-in (r x) (back k z) (h .1) in
+      let f = back-sound k (s .0) z (s .1) in
+      ((g .0, h .0), (s .0 ∷ f .1 .0, (s .2, f .1 .1), (f .0, f .1 .2)))
+
+  back-complete : (xs : List A) (x z : A) → Row R x xs z → All Good (x ∷ xs) → In x (back (length xs) z)
+  back-complete [] x z h g = in-keep (λ x. ok x && some (r x) (z ∷ [])) univ x (g .0 .0) (both (ok x) (some (r x) (z ∷ [])) (g .0 .1) (in-some (r x) (z ∷ []) z (inl refl) h))
+  back-complete (y ∷ ys) x z h g =
+      in-keep (λ x. ok x && some (r x) (back (length ys) z)) univ x (g .0 .0)
+      (both (ok x) (some (r x) (back (length ys) z)) (g .0 .1) (in-some (r x) (back (length ys) z) y (back-complete ys y z (h .1) (g .1)) (h .0)))
+
+  pub hits₁-sound : (n : ℕ) (a z : A) → T (hits₁ n a z) → Found₁ a z
+  hits₁-sound zero a z t = absurd t
+  hits₁-sound (suc n) a z t = go (one→ (hit (suc n) a z) (hits₁ n a z) t) (λ s. hits₁-sound n a z s)
+    where
+      go : T (hit (suc n) a z) ⊎ T (hits₁ n a z) → (T (hits₁ n a z) → Found₁ a z) → Found₁ a z
+      go (inl s) f =
+          let g = some-in (r a) (back n z) s in
+          let b = back-sound n (g .0) z (g .1) in
+          (g .0, b .1 .0, (g .2, b .1 .1), (b .0, b .1 .2))
+      go (inr s) f = f s
+
+  pub hits-sound : (n : ℕ) (a z : A) → T (hits n a z) → Found a z
+  hits-sound n a z t = go (one→ (r a z) (hits₁ n a z) t)
+    where
+      go : T (r a z) ⊎ T (hits₁ n a z) → Found a z
+      go (inl s) = ([], s, tt)
+      go (inr s) = let f = hits₁-sound n a z s in (f .0 ∷ f .1, f .2, f .3)
+
+  hits-at : (n k : ℕ) (a z : A) → suc k ≤ n → T (hit (suc k) a z) → T (hits₁ n a z)
+  hits-at zero k a z h t = absurd (omega arith)
+  hits-at (suc n) k a z h t = go (ℕ-discrete k n) (λ l. hits-at n k a z l t)
+    where
+      go : Dec (k ≡ n) → (suc k ≤ n → T (hits₁ n a z)) → T (hits₁ (suc n) a z)
+      go (yes e) f = one (hit (suc n) a z) (hits₁ n a z) (inl (subst (λ (m : ℕ). T (hit (suc m) a z)) e t))
+      go (no m) f = one (hit (suc n) a z) (hits₁ n a z) (inr (f (omega arith)))
+
+  module _ (eq : Discrete A) where
+    -- of every row through good entries the search finds one
+    pub hits₁-complete : (a z y : A) (ys : List A) → Row R a (y ∷ ys) z → All Good (y ∷ ys) → T (hits₁ (length univ) a z)
+    hits₁-complete a z y ys h g = hits-at (length univ) (length (s .inside)) a z (pigeons (y ∷ s .inside) univ (s .different) (λ x i. all-in Good (y ∷ s .inside) k x i .0)) (in-some (r a) (back (length (s .inside)) z) y (back-complete (s .inside) y z (s .row) k) (h .0))
+      where
+        s : Simple eq R y ys z
+        s = simple eq R y ys z (h .1)
+
+        k : All Good (y ∷ s .inside)
+        k = (g .0, in-all Good (s .inside) (λ x i. all-in Good ys (g .1) x (s .among x i)))
+
+    pub hits-complete : (a z : A) (xs : List A) → Row R a xs z → All Good xs → T (hits (length univ) a z)
+    hits-complete a z [] h g = one (r a z) (hits₁ (length univ) a z) (inl h)
+    hits-complete a z (y ∷ ys) h g = one (r a z) (hits₁ (length univ) a z) (inr (hits₁-complete a z y ys h g))
+
+module _ {A : Type 0} where
+  abbrev pub flat : (A → List (List A)) → List A → List (List A)
+  flat f [] = []
+  flat f (x ∷ xs) = f x ++ flat f xs
+
+  pub in-flat : (f : A → List (List A)) (xs : List A) (x : A) (l : List A) → In x xs → In l (f x) → In l (flat f xs)
+  in-flat f [] x l i j = i
+  in-flat f (y ∷ ys) x l (inl e) j = in-left (f y) (flat f ys) l (subst (λ (v : A). In l (f v)) e j)
+  in-flat f (y ∷ ys) x l (inr i) j = in-right (f y) (flat f ys) l (in-flat f ys x l i j)
+
+  pub in-heads : (x : A) (ls : List (List A)) (l : List A) → In l ls → In (x ∷ l) (map (λ k. x ∷ k) ls)
+  in-heads x [] l i = i
+  in-heads x (k ∷ ls) l (inl e) = inl (ap (λ (v : List A). x ∷ v) e)
+  in-heads x (k ∷ ls) l (inr i) = inr (in-heads x ls l i)
+
+module _ {A : Type 0} (univ : List A) (r : A → A → Bool) where
+  -- all the rows with exactly k entries inside
+  abbrev pub rows : ℕ → A → A → List (List A)
+  rows zero a z = keepIf (r a z) [] []
+  rows (suc k) a z = flat (λ c. map (λ l. c ∷ l) (rows k c z)) (keep (r a) univ)
+
+  pub rows-complete : (xs : List A) (a z : A) → Row (λ x y. T (r x y)) a xs z → All (λ x. In x univ) xs → In xs (rows (length xs) a z)
+  rows-complete [] a z h g = in-keepIf (r a z) [] [] [] h (inl refl)
+  rows-complete (y ∷ ys) a z h g = in-flat (λ c. map (λ l. c ∷ l) (rows (length ys) c z)) (keep (r a) univ) y (y ∷ ys) (in-keep (r a) univ y (g .0) (h .0)) (in-heads y (rows (length ys) y z) ys (rows-complete ys y z (h .1) (g .1)))
