@@ -19,3 +19,4 @@ pub mod Search
 pub mod Decide
 pub mod Check
 pub mod Exists
+pub mod Cases

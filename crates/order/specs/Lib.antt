@@ -6,3 +6,4 @@ pub mod Verdict
 pub mod Steps
 pub mod Patched
 pub mod Proposed
+pub mod Cases

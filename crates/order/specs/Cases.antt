@@ -1,0 +1,123 @@
+-- The rehearsed listings, cases A to L, as one table.
+-- Assumes nothing.
+use mathlib.Core.List.{List, [], _∷_}
+use mathlib.Core.Bool.{true, false}
+use Prim.Native.Nat.{ℕ}
+use Rattle.listing.specs.Node.{Node, none, Listing}
+use Rattle.order.specs.Verdict.{Verdict, robust, opened, Judged}
+use Rattle.order.specs.Patched.{Marks, patched}
+
+-- a row: under the question, the listing with the fences of the map has the verdict
+pub record Case : Type 0 where
+  pub question : ℕ
+  pub listing : Listing
+  pub map : Marks
+  pub verdict : Verdict
+
+abbrev of : ℕ → Listing → Marks → Verdict → Case
+of q L ms v = record { question = q; listing = L; map = ms; verdict = v }
+
+-- "routine, kind, location, first successor, second successor"
+abbrev at : ℕ → ℕ → ℕ → ℕ → ℕ → Node
+at r k l f s = record { routine = r; kind = k; location = l; first = f; second = s }
+
+abbrev read : ℕ
+read = 1
+
+abbrev write : ℕ
+write = 2
+
+abbrev rmw : ℕ
+rmw = 3
+
+abbrev fence : ℕ
+fence = 4
+
+-- "Cells: x = 1, y = 2, z = 3"
+abbrev x : ℕ
+x = 1
+
+abbrev y : ℕ
+y = 2
+
+abbrev z : ℕ
+z = 3
+
+abbrev block : ℕ
+block = 32769
+
+-- "0 write x, 1 read y; 2 write y, 3 read x"
+abbrev pub caseA : Listing
+caseA = at 0 write x 1 none ∷ at 0 read y none none ∷ at 1 write y 3 none ∷ at 1 read x none none ∷ []
+
+-- "0 read x, 1 write y; 2 read y, 3 write x"
+abbrev pub caseB : Listing
+caseB = at 0 read x 1 none ∷ at 0 write y none none ∷ at 1 read y 3 none ∷ at 1 write x none none ∷ []
+
+-- "0 write x, 1 write y; 2 read y, 3 read x"
+abbrev pub caseC : Listing
+caseC = at 0 write x 1 none ∷ at 0 write y none none ∷ at 1 read y 3 none ∷ at 1 read x none none ∷ []
+
+-- "A with map 1 0 0 0"
+abbrev mapD : Marks
+mapD = true ∷ false ∷ false ∷ false ∷ []
+
+-- "A with map 1 0 1 0"
+abbrev mapE : Marks
+mapE = true ∷ false ∷ true ∷ false ∷ []
+
+-- "0 write x, 1 RMW z, 2 read y; 3 write y, 4 RMW z, 5 read x"
+abbrev pub caseG : Listing
+caseG = at 0 write x 1 none ∷ at 0 rmw z 2 none ∷ at 0 read y none none ∷ at 1 write y 4 none ∷ at 1 rmw z 5 none ∷ at 1 read x none none ∷ []
+
+-- "G with 1 RMW x and 4 RMW y"
+abbrev pub caseF : Listing
+caseF = at 0 write x 1 none ∷ at 0 rmw x 2 none ∷ at 0 read y none none ∷ at 1 write y 4 none ∷ at 1 rmw y 5 none ∷ at 1 read x none none ∷ []
+
+-- "0 write x to 1 and 2, 1 fence, 2 read y; 3 write y, 4 fence, 5 read x"
+abbrev pub caseH : Listing
+caseH = at 0 write x 1 2 ∷ at 0 fence 0 2 none ∷ at 0 read y none none ∷ at 1 write y 4 none ∷ at 1 fence 0 5 none ∷ at 1 read x none none ∷ []
+
+-- "0 write block 32769, 1 read the same block; 2 and 3 alike", and "J with the cell x in place of the block"
+abbrev pub caseJ : ℕ → Listing
+caseJ l = at 0 write l 1 none ∷ at 0 read l none none ∷ at 1 write l 3 none ∷ at 1 read l none none ∷ []
+
+-- "0 write x to 1, 1 read y to 0, one routine"
+abbrev pub caseK : Listing
+caseK = at 0 write x 1 none ∷ at 0 read y 0 none ∷ []
+
+-- "0 write unknown, 1 write unknown, one routine"
+abbrev pub caseL : Listing
+caseL = at 0 write 0 1 none ∷ at 0 write 0 none none ∷ []
+
+-- every question that the paper answers for them
+abbrev pub cases : List Case
+cases =
+    of 1 caseA [] (opened (0, 1) ((2, 3) ∷ []))
+    ∷ of 3 caseA [] robust
+    ∷ of 4 caseA [] robust
+    ∷ of 1 caseB [] robust
+    ∷ of 2 caseB [] (opened (0, 1) ((2, 3) ∷ []))
+    ∷ of 3 caseB [] (opened (0, 1) ((2, 3) ∷ []))
+    ∷ of 4 caseB [] (opened (0, 1) ((2, 3) ∷ []))
+    ∷ of 1 caseC [] robust
+    ∷ of 3 caseC [] (opened (0, 1) ((2, 3) ∷ []))
+    ∷ of 4 caseC [] (opened (2, 3) ((0, 1) ∷ []))
+    ∷ of 1 caseA mapD (opened (2, 3) ((0, 1) ∷ []))
+    ∷ of 1 caseA mapE robust
+    ∷ of 2 caseA mapE robust
+    ∷ of 1 caseG [] robust
+    ∷ of 3 caseG [] (opened (0, 1) ((4, 5) ∷ []))
+    ∷ of 4 caseG [] (opened (1, 2) ((3, 4) ∷ []))
+    ∷ of 1 caseF [] robust
+    ∷ of 3 caseF [] (opened (0, 2) ((3, 5) ∷ []))
+    ∷ of 1 caseH [] (opened (0, 2) ((3, 5) ∷ []))
+    ∷ of 1 (caseJ block) [] (opened (0, 1) ((2, 3) ∷ []))
+    ∷ of 1 (caseJ x) [] robust
+    ∷ of 1 caseK [] (opened (0, 1) ((1, 0) ∷ []))
+    ∷ of 2 caseL [] robust
+    ∷ []
+
+-- the row is right
+abbrev pub Right : Case → Type 0
+Right c = Judged (c .question) (patched (c .listing) (c .map)) (c .verdict)
