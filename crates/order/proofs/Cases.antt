@@ -1,15 +1,23 @@
 -- The rehearsed listings have the answers that the paper gives: one table, one statement, computed.
 -- Assumes nothing.
+use mathlib.Core.List.{List}
 use mathlib.Core.Bool.{Bool}
+use lib.Dec.{T}
 use Rattle.order.specs.Rows.{All}
 use Rattle.order.specs.Patched.{patched}
-use Rattle.order.specs.Cases.{Case, cases, Right}
-use Rattle.order.proofs.Lists.{in-all, every-in}
+use Rattle.order.specs.Cases.{Case, cases, shortcuts, Right}
+use Rattle.order.proofs.Lists.{in-all, every, every-in}
 use Rattle.order.proofs.Check.{check, check-sound}
 
 abbrev right? : Case → Bool
 right? c = check (c .question) (patched (c .listing) (c .map)) (c .verdict)
 
+all-right : (cs : List Case) → T (every right? cs) → All Right cs
+all-right cs t = in-all Right cs (λ c i. check-sound (c .question) (patched (c .listing) (c .map)) (c .verdict) (every-in right? cs t c i))
+
+pub shortcuts-right : All Right shortcuts
+shortcuts-right = all-right shortcuts tt
+
 -- EVERY ROW OF THE TABLE IS RIGHT
 pub cases-right : All Right cases
-cases-right = in-all Right cases (λ c i. check-sound (c .question) (patched (c .listing) (c .map)) (c .verdict) (every-in right? cases tt c i))
+cases-right = all-right cases tt

@@ -9,7 +9,7 @@ use native.Mathlib.Decide.{ℕ-discrete}
 use lib.ListN.{length, length-map}
 use Rattle.listing.specs.Node.{Listing}
 use Rattle.order.specs.Rows.{All, In, Different, Row}
-use Rattle.order.specs.Chains.{MayMeet, Ends, IsPair, Joined, Chain}
+use Rattle.order.specs.Chains.{Ends, IsPair, Joined, Chain}
 use Rattle.order.specs.Verdict.{Before, Smaller, Better, Shown}
 use Rattle.order.proofs.Lists.{all-in, in-all, in-right, in-either, row-join, pigeons, upto, in-upto, length-upto}
 use Rattle.order.proofs.Laws.{access-in, enough-kept}
@@ -28,8 +28,8 @@ pub record Best (L : Listing) (p : Ends) (rest : List Ends) : Type 0 where
 pub best-firsts : (L : Listing) (p : Ends) (rest : List Ends) → Best L p rest → Different (map firstNode rest)
 best-firsts L p rest s = go (k .short)
   where
-    k : Keyed ℕ-discrete firstNode (Joined L) (λ a x y j e. subst (λ (v : ℕ). MayMeet L (a .1) v) e j) p rest p
-    k = keyed ℕ-discrete firstNode (Joined L) (λ a x y j e. subst (λ (v : ℕ). MayMeet L (a .1) v) e j) p rest p (s .round .closed)
+    k : Keyed ℕ-discrete firstNode (Joined L) (λ a x y j e. subst (λ (v : ℕ). Joined L a (v, x .1)) e j) p rest p
+    k = keyed ℕ-discrete firstNode (Joined L) (λ a x y j e. subst (λ (v : ℕ). Joined L a (v, x .1)) e j) p rest p (s .round .closed)
 
     round : Round L p (k .inside)
     round = record {

@@ -96,7 +96,7 @@ module _ {A : Type 0} where
   in-keepIf-tail true y ys x i = inr i
   in-keepIf-tail false y ys x i = i
 
-  keepIf-in : (b : Bool) (y : A) (ys : List A) (x : A) → In x (keepIf b y ys) → ((x ≡ y) × T b) ⊎ In x ys
+  pub keepIf-in : (b : Bool) (y : A) (ys : List A) (x : A) → In x (keepIf b y ys) → ((x ≡ y) × T b) ⊎ In x ys
   keepIf-in true y ys x (inl e) = inl (e, tt)
   keepIf-in true y ys x (inr i) = inr i
   keepIf-in false y ys x i = inr i

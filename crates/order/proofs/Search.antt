@@ -1,6 +1,6 @@
 -- Rows over a finite list of entries are found by computation.
 -- Assumes nothing.
-use mathlib.Core.Path.{_≡_, refl, ap, subst}
+use mathlib.Core.Path.{_≡_, refl, sym, ap, subst}
 use mathlib.Core.Logic.{_⊎_, inl, inr}
 use mathlib.Core.List.{List, [], _∷_, _++_, map}
 use mathlib.Core.Bool.{Bool, false, _&&_, _||_}
@@ -11,7 +11,7 @@ use lib.Dec.{T}
 use lib.ListN.{length}
 use Rattle.order.specs.Rows.{All, In, Row}
 use Rattle.order.proofs.Bools.{both, both→, one, one→}
-use Rattle.order.proofs.Lists.{all-in, in-all, in-left, in-right, keepIf, keep, some, in-keepIf, in-keep, keep-in, some-in, in-some, pigeons}
+use Rattle.order.proofs.Lists.{all-in, in-all, in-left, in-right, in-either, keepIf, keep, some, in-keepIf, keepIf-in, in-keep, keep-in, some-in, in-some, pigeons}
 use Rattle.order.proofs.Shorten.{Simple, simple}
 
 module _ {A : Type 0} (univ : List A) (ok : A → Bool) (r : A → A → Bool) where
@@ -119,6 +119,19 @@ module _ {A : Type 0} where
   in-flat f (y ∷ ys) x l (inl e) j = in-left (f y) (flat f ys) l (subst (λ (v : A). In l (f v)) e j)
   in-flat f (y ∷ ys) x l (inr i) j = in-right (f y) (flat f ys) l (in-flat f ys x l i j)
 
+  flat-in : (f : A → List (List A)) (xs : List A) (l : List A) → In l (flat f xs) → (x : A) × In x xs × In l (f x)
+  flat-in f [] l i = absurd i
+  flat-in f (y ∷ ys) l i = go (in-either (f y) (flat f ys) l i) (λ j. flat-in f ys l j)
+    where
+      go : In l (f y) ⊎ In l (flat f ys) → (In l (flat f ys) → (x : A) × In x ys × In l (f x)) → (x : A) × In x (y ∷ ys) × In l (f x)
+      go (inl j) k = (y, inl refl, j)
+      go (inr j) k = let g = k j in (g .0, inr (g .1), g .2)
+
+  heads-in : (x : A) (ls : List (List A)) (l : List A) → In l (map (λ k. x ∷ k) ls) → (k : List A) × In k ls × (l ≡ x ∷ k)
+  heads-in x [] l i = absurd i
+  heads-in x (k ∷ ls) l (inl e) = (k, inl refl, e)
+  heads-in x (k ∷ ls) l (inr i) = let g = heads-in x ls l i in (g .0, inr (g .1), g .2)
+
   pub in-heads : (x : A) (ls : List (List A)) (l : List A) → In l ls → In (x ∷ l) (map (λ k. x ∷ k) ls)
   in-heads x [] l i = i
   in-heads x (k ∷ ls) l (inl e) = inl (ap (λ (v : List A). x ∷ v) e)
@@ -133,3 +146,20 @@ module _ {A : Type 0} (univ : List A) (r : A → A → Bool) where
   pub rows-complete : (xs : List A) (a z : A) → Row (λ x y. T (r x y)) a xs z → All (λ x. In x univ) xs → In xs (rows (length xs) a z)
   rows-complete [] a z h g = in-keepIf (r a z) [] [] [] h (inl refl)
   rows-complete (y ∷ ys) a z h g = in-flat (λ c. map (λ l. c ∷ l) (rows (length ys) c z)) (keep (r a) univ) y (y ∷ ys) (in-keep (r a) univ y (g .0) (h .0)) (in-heads y (rows (length ys) y z) ys (rows-complete ys y z (h .1) (g .1)))
+
+  -- they are rows of listed entries, and of that length
+  abbrev pub Rowed : ℕ → A → A → List A → Type 0
+  Rowed k a z xs = Row (λ x y. T (r x y)) a xs z × All (λ x. In x univ) xs × (length xs ≡ k)
+
+  pub rows-sound : (k : ℕ) (a z : A) (xs : List A) → In xs (rows k a z) → Rowed k a z xs
+  rows-sound zero a z xs i = go (keepIf-in (r a z) [] [] xs i)
+    where
+      go : ((xs ≡ []) × T (r a z)) ⊎ In xs [] → Rowed 0 a z xs
+      go (inl h) = subst (Rowed 0 a z) (sym (h .0)) (h .1, tt, refl)
+      go (inr j) = absurd j
+  rows-sound (suc k) a z xs i =
+      let f = flat-in (λ c. map (λ l. c ∷ l) (rows k c z)) (keep (r a) univ) xs i in
+      let c = keep-in (r a) univ (f .0) (f .1) in
+      let h = heads-in (f .0) (rows k (f .0) z) xs (f .2) in
+      let g = rows-sound k (f .0) z (h .0) (h .1) in
+      subst (Rowed (suc k) a z) (sym (h .2)) ((c .1, g .0), (c .0, g .1), ap suc (g .2))

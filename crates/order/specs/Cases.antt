@@ -43,6 +43,9 @@ y = 2
 abbrev z : ℕ
 z = 3
 
+abbrev w : ℕ
+w = 4
+
 abbrev block : ℕ
 block = 32769
 
@@ -117,6 +120,19 @@ cases =
     ∷ of 1 caseK [] (opened (0, 1) ((1, 0) ∷ []))
     ∷ of 2 caseL [] robust
     ∷ []
+
+-- "Skipping the pair of a node with itself in a loop: a write to a block can follow itself": 0 write block to 0; 1 write block to 1
+abbrev pub ownPairs : Listing
+ownPairs = at 0 write block 0 none ∷ at 1 write block 1 none ∷ []
+
+-- "Using one neighbour before and one after as if that closed a chain": 2-3 follows 0-1 and 4-5
+-- leads to it, but 2-3 does not lead to 4-5
+abbrev pub neighbours : Listing
+neighbours = at 0 write x 1 none ∷ at 0 read y none none ∷ at 1 read y 3 none ∷ at 1 read z none none ∷ at 2 read w 5 none ∷ at 2 write x none none ∷ []
+
+-- two of the paper's "shortcuts that look right", as rows
+abbrev pub shortcuts : List Case
+shortcuts = of 2 ownPairs [] (opened (0, 0) ((1, 1) ∷ [])) ∷ of 1 neighbours [] robust ∷ of 2 neighbours [] robust ∷ []
 
 -- the row is right
 abbrev pub Right : Case → Type 0
