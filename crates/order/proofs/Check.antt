@@ -9,12 +9,12 @@ use native.Mathlib.Omega.{arith}
 use lib.Dec.{T, eqb, ltb, ltb→lt, lt→ltb, eqb→eq, T-not, not-T}
 use lib.ListN.{length}
 use Rattle.listing.specs.Node.{Listing}
-use Rattle.order.specs.Rows.{All, In, Different, Row}
+use Rattle.order.specs.Rows.{In, Different, Row}
 use Rattle.order.specs.Chains.{Ends, IsPair, Joined, Enough, Chain}
-use Rattle.order.specs.Verdict.{Fails, Before, First, Smaller, Better, Shown, Verdict, robust, opened, Judged}
+use Rattle.order.specs.Verdict.{Fails, Before, Smaller, Better, Shown, Verdict, robust, opened, Judged}
 use Rattle.order.proofs.Bools.{both, both→, one, one→, T?, eq→eqb}
 use Rattle.order.proofs.Lists.{all-in, in-all, some, every, some-in, in-some, every-in, in-every, upto, in-upto}
-use Rattle.order.proofs.Laws.{access-in, enough-more}
+use Rattle.order.proofs.Laws.{access-in, enough-some}
 use Rattle.order.proofs.Rounds.{Round}
 use Rattle.order.proofs.Least.{shown-best, best-chain}
 use Rattle.order.proofs.Search.{rows, rows-complete, Rowed, rows-sound}
@@ -180,7 +180,7 @@ shown-complete L p rest s =
 
     some-entry : (k : ℕ) (xs : List Ends) → length xs ≡ suc k → Enough xs
     some-entry k [] e = absurd (omega arith)
-    some-entry k (x ∷ xs) e = enough-more x xs
+    some-entry k (x ∷ xs) e = enough-some (x ∷ xs) tt
 
     worse : (k : ℕ) (xs : List Ends) → Rowed (pairs L) (joined? L) (suc k) p p xs → T (worse? p rest xs)
     worse k xs h = go (T? (some (same? p) xs))

@@ -4,14 +4,14 @@ use mathlib.Core.Path.{_≡_, refl, sym, subst}
 use mathlib.Core.Logic.{_⊎_, inl, inr}
 use mathlib.Core.List.{List, [], _∷_, _++_}
 use mathlib.Core.Bool.{Bool, true, false, not, _&&_, _||_}
-use Prim.Native.Nat.{ℕ, _<_}
+use Prim.Native.Nat.{ℕ}
 use native.Mathlib.Decide.{ℕ-discrete}
 use lib.Dec.{T, eqb, ltb, ltb→lt, lt→ltb, eqb→eq, eqb-refl, T-not, not-T}
 use lib.ListN.{length}
 use Rattle.listing.specs.Node.{Listing, node}
-use Rattle.order.specs.Rows.{All, In, Row}
-use Rattle.order.specs.Walks.{kindAt, locAt, isAccess, isRmw, Next, Succ, Walk, Pair}
-use Rattle.order.specs.Chains.{meets, surely, Ends, IsPair, Joined, Chain}
+use Rattle.order.specs.Rows.{All, In}
+use Rattle.order.specs.Walks.{kindAt, locAt, isAccess, isRmw, Next, Succ, Walk}
+use Rattle.order.specs.Chains.{meets, surely, Ends, IsPair, Chain}
 use Rattle.order.specs.Need.{Entry, need, leave, leaveUnlessRmw, entry, RmwInside, Says, bars, Barrier}
 use Rattle.order.specs.Verdict.{Fails}
 use Rattle.order.proofs.Bools.{both, both→, one, one→, T?, eq→eqb}

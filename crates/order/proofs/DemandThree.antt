@@ -4,13 +4,12 @@ use mathlib.Core.Path.{_≡_, refl, sym, _∙_}
 use mathlib.Core.Logic.{_↔_, _⊎_, inl, inr}
 use mathlib.Core.List.{List, [], _∷_, map}
 use Prim.Native.Nat.{ℕ}
-use lib.Dec.{T}
 use Rattle.listing.specs.Node.{Listing}
 use Rattle.order.specs.Rows.{All, In, Some, Row}
 use Rattle.order.specs.Walks.{kindAt, locAt}
 use Rattle.order.specs.Chains.{surely, SurelyMeet, Ends, IsPair, Joined, Chain}
 use Rattle.order.specs.Need.{bars, Barrier, Unbarred}
-use Rattle.order.specs.Verdict.{Fails, Robust}
+use Rattle.order.specs.Verdict.{Robust}
 use Rattle.order.specs.Steps.{Step, ends, Hop, Ring, InOrder, Free, Ordered}
 use Rattle.order.proofs.Bools.{T?}
 use Rattle.order.proofs.Lists.{all-in, in-all}

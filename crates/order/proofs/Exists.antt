@@ -7,9 +7,9 @@ use native.Mathlib.Omega.{arith}
 use native.Mathlib.Decide.{decLt}
 use lib.ListN.{length}
 use Rattle.listing.specs.Node.{Listing}
-use Rattle.order.specs.Rows.{All, In}
+use Rattle.order.specs.Rows.{In}
 use Rattle.order.specs.Chains.{Ends, IsPair, Chain}
-use Rattle.order.specs.Verdict.{Fails, Before, Better, Shown, First, Verdict, robust, opened, Judged}
+use Rattle.order.specs.Verdict.{Before, Better, Shown, Verdict, robust, opened, Judged}
 use Rattle.order.proofs.Lists.{all-in, in-all, in-left, in-right, keep, in-keep, keep-in, pigeons}
 use Rattle.order.proofs.Orders.{order-ends, order-better, before-trans, before-irrefl, better-trans, better-irrefl, min-of, min-in}
 use Rattle.order.proofs.Search.{rows, rows-complete}

@@ -4,7 +4,7 @@ use mathlib.Core.Path.{_≡_, refl, sym, subst}
 use mathlib.Core.Logic.{_⊎_, inl, inr}
 use mathlib.Core.HLevel.{×-discrete}
 use mathlib.Core.List.{List, [], _∷_}
-use mathlib.Core.Bool.{Bool, true, false, _||_}
+use mathlib.Core.Bool.{_||_}
 use Prim.Native.Nat.{ℕ, _≤_, _<_}
 use native.Mathlib.Decide.{decLt, ℕ-discrete}
 use native.Mathlib.Omega.{arith}
@@ -20,9 +20,9 @@ use Rattle.order.proofs.Bools.{one, one→}
 pub ends-eq : Discrete Ends
 ends-eq = ×-discrete ℕ-discrete ℕ-discrete
 
--- a pair more is enough
-pub enough-more : (x : Ends) (xs : List Ends) → Enough (x ∷ xs)
-enough-more x xs = tt
+-- a pair that follows is enough
+pub enough-some : (xs : List Ends) → Some xs → Enough xs
+enough-some xs h = h
 
 -- what keeps an entry keeps enough
 pub enough-kept : (xs ys : List Ends) → (Some xs → Some ys) → Enough xs → Enough ys

@@ -1,16 +1,16 @@
 -- The chain to show: a least round is one, and it has at most N + 1 pairs; when a pair lies on a chain.
 -- Assumes nothing.
-use mathlib.Core.Path.{_≡_, refl, sym, ap, subst}
+use mathlib.Core.Path.{_≡_, refl, sym, subst}
 use mathlib.Core.Logic.{_⊎_, inl, inr}
 use mathlib.Core.List.{List, [], _∷_, _++_, map}
-use Prim.Native.Nat.{ℕ, zero, suc, _+_, _≤_, _<_}
+use Prim.Native.Nat.{ℕ, suc, _+_, _≤_, _<_}
 use native.Mathlib.Omega.{arith}
 use native.Mathlib.Decide.{ℕ-discrete}
 use lib.ListN.{length, length-map}
 use Rattle.listing.specs.Node.{Listing}
 use Rattle.order.specs.Rows.{All, In, Different, Row}
 use Rattle.order.specs.Chains.{Ends, IsPair, Joined, Chain}
-use Rattle.order.specs.Verdict.{Before, Smaller, Better, Shown}
+use Rattle.order.specs.Verdict.{Before, Smaller, Shown}
 use Rattle.order.proofs.Lists.{all-in, in-all, in-right, in-either, row-join, pigeons, upto, in-upto, length-upto}
 use Rattle.order.proofs.Laws.{access-in, enough-kept}
 use Rattle.order.proofs.Keys.{Keyed, keyed, keys-different}

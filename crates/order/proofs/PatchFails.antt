@@ -4,13 +4,13 @@
 use mathlib.Core.Path.{_≡_, sym, ap, ap₂, _∙_, subst, subst₂, subst₃}
 use mathlib.Core.Logic.{_⊎_, inl, inr}
 use mathlib.Core.List.{List, [], _∷_}
-use mathlib.Core.Bool.{Bool, true, false, false≢true}
+use mathlib.Core.Bool.{true, false, false≢true}
 use Prim.Native.Nat.{ℕ, _≤_, _<_}
 use native.Mathlib.Decide.{decLt}
 use native.Mathlib.Omega.{arith}
 use lib.Dec.{T}
 use lib.ListN.{length}
-use Rattle.listing.specs.Node.{Node, Listing, node}
+use Rattle.listing.specs.Node.{Node, Listing}
 use Rattle.order.specs.Rows.{All, In, Row}
 use Rattle.order.specs.Walks.{kindAt, isAccess, isRmw, Access, Walk}
 use Rattle.order.specs.Chains.{overlap, meets, surely, SurelyMeet, Ends, IsPair, Joined, Chain}

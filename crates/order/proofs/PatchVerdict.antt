@@ -1,12 +1,11 @@
 -- Judging the written listing is judging with the map, in the old numbers.
 -- Assumes nothing.
 use mathlib.Core.Logic.{_↔_}
-use mathlib.Core.List.{List}
 use Prim.Native.Nat.{ℕ, _≤_}
 use lib.ListN.{length}
 use Rattle.listing.specs.Node.{Listing}
 use Rattle.order.specs.Chains.{Ends}
-use Rattle.order.specs.Verdict.{Before, Shown, First, Verdict, robust, opened, Judged}
+use Rattle.order.specs.Verdict.{Before, Shown, Verdict, robust, opened, Judged}
 use Rattle.order.specs.Patched.{Marks, patched}
 use Rattle.order.proofs.Patch.{Links}
 use Rattle.order.proofs.PatchFails.{FailsWith, patched-fails, fails-patched, chain→, chain←}

@@ -2,12 +2,12 @@
 -- Assumes nothing.
 use mathlib.Core.Path.{_≡_, sym, _∙_}
 use mathlib.Core.Logic.{_⊎_, inl, inr}
-use mathlib.Core.Bool.{Bool, true, false}
-use Prim.Native.Nat.{ℕ, _≤_, _<_}
+use mathlib.Core.Bool.{true, false}
+use Prim.Native.Nat.{ℕ, _≤_}
 use lib.ListN.{length}
 use lib.Seq.{ext-getD}
 use Rattle.listing.specs.Node.{Listing}
-use Rattle.order.specs.Verdict.{Fails, Robust}
+use Rattle.order.specs.Verdict.{Robust}
 use Rattle.order.specs.Patched.{Marks, marked, patched}
 use Rattle.order.specs.Proposed.{Proposed}
 use Rattle.order.proofs.Bools.{bool?}

@@ -1,16 +1,16 @@
 -- Rounds: closed rows of pairs that avoid their first pair. Every chain is one, and every round has a chain in it.
 -- Assumes nothing.
 use mathlib.Core.Path.{_≡_}
-use mathlib.Core.Logic.{_⊎_, inl, inr}
+use mathlib.Core.Logic.{inl, inr}
 use mathlib.Core.List.{List, [], _∷_}
-use Prim.Native.Nat.{ℕ, suc, _≤_}
+use Prim.Native.Nat.{_≤_}
 use native.Mathlib.Omega.{arith}
 use lib.ListN.{length}
 use Rattle.listing.specs.Node.{Listing}
 use Rattle.order.specs.Rows.{All, In, Row}
 use Rattle.order.specs.Chains.{Ends, IsPair, Joined, Enough, Chain}
 use Rattle.order.proofs.Lists.{all-in, in-all}
-use Rattle.order.proofs.Laws.{ends-eq, enough-more}
+use Rattle.order.proofs.Laws.{ends-eq, enough-some}
 use Rattle.order.proofs.Shorten.{simple, loop}
 
 -- `p ∷ rest` is a closed row of pairs that does not come back to p on the way
@@ -32,7 +32,7 @@ round-chain L p (y ∷ ys) h =
       record {
         pairs = (h .pairs .0, (h .pairs .1 .0, in-all (IsPair L) (s .inside) (λ x i. all-in (IsPair L) ys (h .pairs .1 .1) x (s .among x i))));
         different = (elim [ inl e ↦ h .fresh (inl e) | inr i ↦ h .fresh (inr (s .among p i)) ], s .different);
-        enough = enough-more y (s .inside);
+        enough = enough-some (y ∷ s .inside) tt;
         closed = (h .closed .0, s .row);
       },
       omega (arith, s .short),
@@ -46,7 +46,7 @@ round L p xs g h n =
       record {
         pairs = (g .0, in-all (IsPair L) (l .rest) (λ x i. all-in (IsPair L) xs (g .1) x (l .among x i)));
         fresh = l .fresh;
-        enough = l .some;
+        enough = enough-some (l .rest) (l .some);
         closed = l .row;
       },
     )
