@@ -1,0 +1,71 @@
+-- What becomes of whole relations: w before, v after. `Holds` of the rows after, with one of the relations here, is what most functions promise.
+-- Assumes nothing.
+use mathlib.Core.Path.{_≡_}
+use mathlib.Core.Logic.{_⊎_}
+use mathlib.Core.List.{List}
+use Prim.Native.Nat.{ℕ, _<_}
+use Rattle.order.specs.Rows.{All, Row}
+use Rattle.reach.specs.Rows.{at, Has, Link}
+
+-- one link or more from a to b, with only nodes of m in between
+abbrev pub Through : ℕ → List ℕ → List ℕ → ℕ → ℕ → Type 0
+Through n w m a b = (inside : List ℕ) × Row (Link n w) a inside b × All (λ c. Has m 0 c) inside
+
+-- a step by r and then a step by w
+abbrev pub Then : ℕ → List ℕ → List ℕ → ℕ → ℕ → Type 0
+Then n r w a b = (c : ℕ) × (c < n) × Has r a c × Has w c b
+
+-- the relation turned round
+abbrev pub Turned : List ℕ → ℕ → ℕ → Type 0
+Turned w a b = Has w b a
+
+-- what starts in s
+abbrev pub From : List ℕ → List ℕ → ℕ → ℕ → Type 0
+From s w a b = Has w a b × Has s 0 a
+
+-- what ends in s
+abbrev pub To : List ℕ → List ℕ → ℕ → ℕ → Type 0
+To s w a b = Has w a b × Has s 0 b
+
+-- what starts and ends in s
+abbrev pub Among : List ℕ → List ℕ → ℕ → ℕ → Type 0
+Among s w a b = Has w a b × Has s 0 a × Has s 0 b
+
+-- what leads elsewhere
+abbrev pub Away : List ℕ → ℕ → ℕ → Type 0
+Away w a b = Has w a b × (a ≡ b → ⊥)
+
+-- what both have
+pub record Common (u w v : List ℕ) : Type 0 where
+  pub gives : (a b : ℕ) → b < 128 → Has v a b → Has w a b × Has u a b
+  pub keeps : (a b : ℕ) → b < 128 → Has w a b → Has u a b → Has v a b
+
+-- what either has
+pub record United (u w v : List ℕ) : Type 0 where
+  pub gives : (a b : ℕ) → b < 128 → Has v a b → Has w a b ⊎ Has u a b
+  pub keeps : (a b : ℕ) → b < 128 → Has w a b → Has v a b
+  pub brings : (a b : ℕ) → b < 128 → Has u a b → Has v a b
+
+-- what w has and u has not
+pub record Without (u w v : List ℕ) : Type 0 where
+  pub gives : (a b : ℕ) → b < 128 → Has v a b → Has w a b × (Has u a b → ⊥)
+  pub keeps : (a b : ℕ) → b < 128 → Has w a b → (Has u a b → ⊥) → Has v a b
+
+-- k may now lie inside: one round of Warshall's, over the rows below n
+pub record Passed (w v : List ℕ) (n k : ℕ) : Type 0 where
+  pub gives : (x y : ℕ) → y < 128 → Has v x y → Has w x y ⊎ (Has w x k × Has w k y)
+  pub keeps : (x y : ℕ) → y < 128 → Has w x y → Has v x y
+  pub done : (x y : ℕ) → x < n → y < 128 → Has w x k → Has w k y → Has v x y
+
+-- into row x of v the rows below n of w are poured that row x of r names; u is v after
+pub record Pouring (r w v u : List ℕ) (x n : ℕ) : Type 0 where
+  pub gives : (y : ℕ) → y < 128 → Has u x y → Has v x y ⊎ Then n r w x y
+  pub keeps : (y : ℕ) → y < 128 → Has v x y → Has u x y
+  pub done : (c y : ℕ) → c < n → y < 128 → Has r x c → Has w c y → Has u x y
+  pub rest : (z y : ℕ) → y < 128 → (z ≡ x → ⊥) → at u z y ≡ at v z y
+
+-- a is put into each row of v below n that row a of w names; u is v after
+pub record Turning (w v u : List ℕ) (a n : ℕ) : Type 0 where
+  pub gives : (x y : ℕ) → y < 128 → Has u x y → Has v x y ⊎ ((y ≡ a) × (x < n) × Has w a x)
+  pub keeps : (x y : ℕ) → y < 128 → Has v x y → Has u x y
+  pub done : (x : ℕ) → x < n → Has w a x → Has u x a
