@@ -1,0 +1,119 @@
+-- The bits of a word: of `or`, `and` and `xor`, of one hot bit, and of a word that is not 0.
+-- Assumes nothing.
+use mathlib.Core.Path.{_≡_, refl, sym, ap, _∙_}
+use mathlib.Core.Logic.{_⊎_, inl, inr, ⊎-elim}
+use mathlib.Core.Bool.{Bool, true, false}
+use mathlib.Core.List.{List}
+use Prim.Native.Nat.{ℕ, zero, suc, _+_, _-_, _*_, _/_, _%_, _^_, _≤_, _<_, min, max}
+use native.Mathlib.Nat.{one-mul, pow-suc, div-eq-of-lt, mul-mod-left}
+use native.Mathlib.Omega.{arith}
+use native.Mathlib.Numerals.{one-add}
+use native.Mathlib.Decide.{decLt, ℕ-discrete}
+use borrow.Author.Tests.{eqb-true, eqb-false}
+use lib.Dec.{eqb}
+use lib.Pow.{pow-pos, pow-lt, pow-add, shl-exact, shl-shr, shr-shr}
+use lib.Bits.{bitOr, bitAnd, bitXor, differ, or-step, or-shr, and-step, and-shr, xor-step, xor-shr}
+use lib.ListN.{length, getD, set, length-set}
+use lib.Seq.{getD-set-same, getD-set-other}
+use Rattle.reach.specs.Rows.{bit}
+
+low-or : (x y : ℕ) → bitOr x y % 2 ≡ max (x % 2) (y % 2)
+low-or x y = omega (arith, or-step x y)
+
+pub bit-or : (x y i : ℕ) → bit (bitOr x y) i ≡ max (bit x i) (bit y i)
+unfolding bit
+bit-or x y i = rw or-shr (low-or (x / 2 ^ i) (y / 2 ^ i))
+
+low-and : (x y : ℕ) → bitAnd x y % 2 ≡ min (x % 2) (y % 2)
+low-and x y = omega (arith, and-step x y)
+
+pub bit-and : (x y i : ℕ) → bit (bitAnd x y) i ≡ min (bit x i) (bit y i)
+unfolding bit
+bit-and x y i = rw and-shr (low-and (x / 2 ^ i) (y / 2 ^ i))
+
+pub bit-le : (x i : ℕ) → bit x i ≤ 1
+unfolding bit
+bit-le x i = omega arith
+
+-- what x has and y has not
+abbrev pub bitLess : ℕ → ℕ → ℕ
+bitLess x y = bitXor x (bitAnd x y)
+
+low-xor : (x y : ℕ) → bitXor x y % 2 ≡ differ (x % 2) (y % 2)
+low-xor x y = let h = differ-le (x % 2) (y % 2) (omega arith) (omega arith) in omega (arith, xor-step x y)
+  where
+    differ-le : (p q : ℕ) → p ≤ 1 → q ≤ 1 → differ p q ≤ 1
+    differ-le zero q hp hq = hq
+    differ-le (suc p) zero hp hq = hp
+    differ-le (suc p) (suc q) hp hq = let e : p ≡ 0 = omega arith in rw e (omega arith)
+
+bit-xor : (x y i : ℕ) → bit (bitXor x y) i ≡ differ (bit x i) (bit y i)
+unfolding bit
+bit-xor x y i = rw xor-shr (low-xor (x / 2 ^ i) (y / 2 ^ i))
+
+pub bit-less : (x y i : ℕ) → bit (bitLess x y) i ≡ bit x i - bit y i
+bit-less x y i =
+    bit-xor x (bitAnd x y) i ∙ ap (differ (bit x i)) (bit-and x y i) ∙ of (bit x i) (bit y i) (bit-le x i) (bit-le y i)
+  where
+    of : (p q : ℕ) → p ≤ 1 → q ≤ 1 → differ p (min p q) ≡ p - q
+    of zero q hp hq = omega arith
+    of (suc p) q hp hq =
+        let e : p ≡ 0 = omega arith in
+        rw e (one q hq)
+      where
+        one : (q : ℕ) → q ≤ 1 → differ 1 (min 1 q) ≡ 1 - q
+        one zero h = refl
+        one (suc r) h = let e : r ≡ 0 = omega arith in rw e refl
+
+-- ---- one bit
+
+-- what `1 << n` gives
+abbrev pub hot : ℕ → ℕ
+hot n = 1 * 2 ^ n % 18446744073709551616
+
+hot-is : (n : ℕ) → n < 64 → hot n ≡ 1 * 2 ^ n
+hot-is n h = shl-exact 1 n 64 (omega arith) (omega arith)
+
+pub bit-hot-same : (n : ℕ) → n < 64 → bit (hot n) n ≡ 1
+unfolding bit
+bit-hot-same n h = ap (λ (z : ℕ). z / 2 ^ n % 2) (hot-is n h) ∙ ap (λ (z : ℕ). z % 2) (shl-shr 1 n)
+
+bit-below : (n i : ℕ) → i < n → 1 * 2 ^ n / 2 ^ i % 2 ≡ 0
+bit-below n i h =
+    let e : n ≡ suc (n - suc i) + i = omega arith in
+    let p : 1 * 2 ^ n ≡ 2 ^ suc (n - suc i) * 2 ^ i = one-mul (2 ^ n) ∙ ap (λ (z : ℕ). 2 ^ z) e ∙ pow-add 2 (suc (n - suc i)) i in
+    let q : 1 * 2 ^ n / 2 ^ i ≡ 2 ^ suc (n - suc i) = ap (λ (z : ℕ). z / 2 ^ i) p ∙ shl-shr (2 ^ suc (n - suc i)) i in
+    ap (λ (z : ℕ). z % 2) q ∙ ap (λ (z : ℕ). z % 2) (pow-suc 2 (n - suc i)) ∙ mul-mod-left (2 ^ (n - suc i)) 2
+
+bit-above : (n i : ℕ) → n < i → 1 * 2 ^ n / 2 ^ i % 2 ≡ 0
+bit-above n i h =
+    let l : 1 * 2 ^ n < 2 ^ i = rw (one-mul (2 ^ n)) (pow-lt h) in
+    ap (λ (z : ℕ). z % 2) (div-eq-of-lt l)
+
+pub bit-hot-other : (n i : ℕ) → n < 64 → (i ≡ n → ⊥) → bit (hot n) i ≡ 0
+unfolding bit
+bit-hot-other n i h ne = ap (λ (z : ℕ). z / 2 ^ i % 2) (hot-is n h) ∙ by (decLt i n)
+  where
+    by : Dec (i < n) → 1 * 2 ^ n / 2 ^ i % 2 ≡ 0
+    by (yes l) = bit-below n i l
+    by (no l) = bit-above n i (omega arith)
+
+-- ---- a word that is not 0
+
+pub bit-zero : (i : ℕ) → bit 0 i ≡ 0
+unfolding bit
+bit-zero i = ap (λ (u : ℕ). u % 2) (div-eq-of-lt (pow-pos i))
+
+-- some bit of it is set
+pub some-bit : (k z : ℕ) → z < 2 ^ k → (z ≡ 0 → ⊥) → (i : ℕ) × (i < k) × (bit z i ≡ 1)
+unfolding bit
+some-bit zero z h ne = absurd (ne (omega arith))
+some-bit (suc k) z h ne = by (ℕ-discrete (z % 2) 1) (λ n. some-bit k (z / 2) (omega (arith, pow-suc 2 k)) n)
+  where
+    by : Dec (z % 2 ≡ 1) → ((z / 2 ≡ 0 → ⊥) → (i : ℕ) × (i < k) × (bit (z / 2) i ≡ 1)) → (i : ℕ) × (i < suc k) × (bit z i ≡ 1)
+    by (yes e) rec = (zero, omega arith, omega arith)
+    by (no e) rec =
+        let r = rec (λ q. ne (omega arith)) in
+        let i = r .0 in
+        let hi = r .1 in
+        (suc i, omega arith, ap (λ (u : ℕ). u % 2) (ap (λ (u : ℕ). z / 2 ^ u) (sym (one-add i)) ∙ sym (shr-shr z 1 i)) ∙ r .2)

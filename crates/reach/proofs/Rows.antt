@@ -1,0 +1,354 @@
+-- The laws of rows: a bit, a row and all rows touched, tests, and two rows that meet.
+-- Assumes nothing.
+use mathlib.Core.Path.{_≡_, refl, sym, ap, _∙_}
+use mathlib.Core.Logic.{_⊎_, inl, inr, ⊎-elim}
+use mathlib.Core.Bool.{Bool, true, false, not}
+use mathlib.Core.List.{List}
+use Prim.Native.Nat.{ℕ, zero, suc, _+_, _-_, _*_, _/_, _%_, _^_, _≤_, _<_, min, max}
+use native.Mathlib.Omega.{arith}
+use native.Mathlib.Decide.{decLt, ℕ-discrete}
+use borrow.Author.Count.{below-more}
+use borrow.Author.Tests.{eqb-true, eqb-false}
+use lib.Dec.{eqb}
+use lib.Bits.{bitOr, bitAnd, and-lt, and-zero-l, or-zero-l}
+use lib.ListN.{length, getD, set, length-set, List·getD-eq-default}
+use lib.Seq.{getD-set-same, getD-set-other}
+use Rattle.reach.specs.Rows.{Tells, bit, at, Has, Blank, Meet}
+use Rattle.reach.specs.Touched.{Added, Removed, Mixed, Emptied}
+use Rattle.reach.specs.Whole.{Common, United, Without}
+use Rattle.reach.proofs.Bit.{hot, bitLess, bit-or, bit-and, bit-less, bit-le, bit-zero, some-bit, bit-hot-same, bit-hot-other}
+
+-- a bit is 0 or 1
+pub at-le : (w : List ℕ) (a b : ℕ) → at w a b ≤ 1
+unfolding at bit
+at-le w a b = omega arith
+
+-- two places are the same or not
+both : (x y a b : ℕ) → Dec ((x ≡ a) × (y ≡ b))
+both x y a b = by (ℕ-discrete x a) (ℕ-discrete y b)
+  where
+    by : Dec (x ≡ a) → Dec (y ≡ b) → Dec ((x ≡ a) × (y ≡ b))
+    by (yes e) (yes f) = yes (e, f)
+    by (yes e) (no f) = no (λ p. f (p .1))
+    by (no e) f = no (λ p. e (p .0))
+
+module _ (w : List ℕ) (a : ℕ) (lo hi : ℕ) (long : 2 * a + 1 < length w) where
+  -- a row after its two words are stored
+  low-word : (y : ℕ) → y < 64 → getD (set (set w (2 * a) lo) (2 * a + 1) hi) (2 * a + y / 64) 0 ≡ lo
+  low-word y h =
+      let e : 2 * a + y / 64 ≡ 2 * a = omega arith in
+      rw e (getD-set-other (set w (2 * a) lo) (2 * a + 1) (2 * a) hi 0 (omega arith) ∙ getD-set-same w (2 * a) lo 0 (omega arith))
+
+  high-word : (y : ℕ) → 64 ≤ y → y < 128 → getD (set (set w (2 * a) lo) (2 * a + 1) hi) (2 * a + y / 64) 0 ≡ hi
+  high-word y h hy =
+      let e : 2 * a + y / 64 ≡ 2 * a + 1 = omega arith in
+      rw e (getD-set-same (set w (2 * a) lo) (2 * a + 1) hi 0 (simp length-set (omega arith)))
+
+  pub at-other : (x y : ℕ) → y < 128 → (x ≡ a → ⊥) → at (set (set w (2 * a) lo) (2 * a + 1) hi) x y ≡ at w x y
+  unfolding at
+  at-other x y hy ne =
+      ap (λ (z : ℕ). bit z (y % 64))
+      (getD-set-other (set w (2 * a) lo) (2 * a + 1) (2 * x + y / 64) hi 0 (omega arith)
+      ∙ getD-set-other w (2 * a) (2 * x + y / 64) lo 0 (omega arith))
+
+-- words combined by op are bits combined by g
+module _ (op g : ℕ → ℕ → ℕ) (law : (x y i : ℕ) → bit (op x y) i ≡ g (bit x i) (bit y i)) where
+  -- row a after the stores that combine it with row k of u
+  pub mixed : (u w : List ℕ) (a k : ℕ) → 2 * a + 1 < length w
+      → Mixed g u w (set (set w (2 * a) (op (getD w (2 * a) 0) (getD u (2 * k) 0))) (2 * a + 1) (op (getD w (2 * a + 1) 0) (getD u (2 * k + 1) 0))) a k
+  unfolding at
+  mixed u w a k long = record { row = row; rest = λ x y hy ne. at-other w a lo hi long x y hy ne }
+    where
+      lo : ℕ
+      lo = op (getD w (2 * a) 0) (getD u (2 * k) 0)
+
+      hi : ℕ
+      hi = op (getD w (2 * a + 1) 0) (getD u (2 * k + 1) 0)
+
+      row : (y : ℕ) → y < 128 → at (set (set w (2 * a) lo) (2 * a + 1) hi) a y ≡ g (at w a y) (at u k y)
+      row y hy = by (decLt y 64)
+        where
+          by : Dec (y < 64) → at (set (set w (2 * a) lo) (2 * a + 1) hi) a y ≡ g (at w a y) (at u k y)
+          by (yes h) =
+              let ea : 2 * a + y / 64 ≡ 2 * a = omega arith in
+              let ek : 2 * k + y / 64 ≡ 2 * k = omega arith in
+              ap (λ (z : ℕ). bit z (y % 64)) (low-word w a lo hi long y h)
+              ∙ law (getD w (2 * a) 0) (getD u (2 * k) 0) (y % 64)
+              ∙ cc
+          by (no h) =
+              let ea : 2 * a + y / 64 ≡ 2 * a + 1 = omega arith in
+              let ek : 2 * k + y / 64 ≡ 2 * k + 1 = omega arith in
+              ap (λ (z : ℕ). bit z (y % 64)) (high-word w a lo hi long y (omega arith) hy)
+              ∙ law (getD w (2 * a + 1) 0) (getD u (2 * k + 1) 0) (y % 64)
+              ∙ cc
+
+  -- every word combined with its like of u
+  pub wordwise : (u w v : List ℕ) → length u ≡ length w → length v ≡ length w → op 0 0 ≡ 0
+      → ((j : ℕ) → j < length w → getD v j 0 ≡ op (getD w j 0) (getD u j 0))
+      → (x y : ℕ) → at v x y ≡ g (at w x y) (at u x y)
+  unfolding at
+  wordwise u w v eu ev z each x y = ap (λ (i : ℕ). bit i (y % 64)) (by (decLt j (length w))) ∙ law (getD w j 0) (getD u j 0) (y % 64)
+    where
+      j : ℕ
+      j = 2 * x + y / 64
+
+      by : Dec (j < length w) → getD v j 0 ≡ op (getD w j 0) (getD u j 0)
+      by (yes h) = each j h
+      by (no h) =
+          let dw : getD w j 0 ≡ 0 = List·getD-eq-default w 0 (omega arith) in
+          let du : getD u j 0 ≡ 0 = List·getD-eq-default u 0 (omega arith) in
+          let dv : getD v j 0 ≡ 0 = List·getD-eq-default v 0 (omega arith) in
+          rw (dw, du, dv) (sym z)
+
+  -- one word combined with a hot bit
+  module _ (w : List ℕ) (a b : ℕ) (long : 2 * a + 1 < length w) (hb : b < 128) where
+    abbrev place : ℕ
+    place = 2 * a + b / 64
+
+    abbrev word : ℕ
+    word = op (getD w place 0) (hot (b % 64))
+
+    bit-here : (x y : ℕ) → 2 * x + y / 64 ≡ place → at (set w place word) x y ≡ g (at w x y) (bit (hot (b % 64)) (y % 64))
+    unfolding at
+    bit-here x y e =
+        ap (λ (z : ℕ). bit (getD (set w place word) z 0) (y % 64)) e
+        ∙ ap (λ (z : ℕ). bit z (y % 64)) (getD-set-same w place word 0 (omega arith))
+        ∙ law (getD w place 0) (hot (b % 64)) (y % 64)
+        ∙ ap (λ (z : ℕ). g (bit (getD w z 0) (y % 64)) (bit (hot (b % 64)) (y % 64))) (sym e)
+
+    bit-there : (x y : ℕ) → (2 * x + y / 64 ≡ place → ⊥) → at (set w place word) x y ≡ at w x y
+    unfolding at
+    bit-there x y ne = ap (λ (z : ℕ). bit z (y % 64)) (getD-set-other w place (2 * x + y / 64) word 0 ne)
+
+    -- the one place is met, and there the hot bit is 1
+    pub hot-here : at (set w place word) a b ≡ g (at w a b) 1
+    hot-here = bit-here a b refl ∙ ap (g (at w a b)) (bit-hot-same (b % 64) (omega arith))
+
+    -- elsewhere either nothing is met, or a hot bit that is 0
+    pub hot-there : (x y : ℕ) → y < 128 → ((z : ℕ) → z ≤ 1 → g z 0 ≡ z) → ((x ≡ a) × (y ≡ b) → ⊥) → at (set w place word) x y ≡ at w x y
+    hot-there x y hy zero-right ne = by (ℕ-discrete (2 * x + y / 64) place) (ℕ-discrete (y % 64) (b % 64))
+      where
+        by : Dec (2 * x + y / 64 ≡ place) → Dec (y % 64 ≡ b % 64) → at (set w place word) x y ≡ at w x y
+        by (yes e) (yes f) = absurd (ne (omega arith, omega arith))
+        by (yes e) (no f) = bit-here x y e ∙ ap (g (at w x y)) (bit-hot-other (b % 64) (y % 64) (omega arith) f) ∙ zero-right (at w x y) (at-le w x y)
+        by (no e) f = bit-there x y e
+
+module _ (w : List ℕ) (a b : ℕ) (long : 2 * a + 1 < length w) (hb : b < 128) where
+  abbrev cell : ℕ
+  cell = 2 * a + b / 64
+
+  -- the word with the bit put in
+  pub added : Added w (set w cell (bitOr (getD w cell 0) (hot (b % 64)))) a b
+  added = record { gives = gives; keeps = keeps; new = new }
+    where
+      v : List ℕ
+      v = set w cell (bitOr (getD w cell 0) (hot (b % 64)))
+
+      there : (x y : ℕ) → y < 128 → ((x ≡ a) × (y ≡ b) → ⊥) → at v x y ≡ at w x y
+      there x y hy = hot-there bitOr max bit-or w a b long hb x y hy (λ z h. omega arith)
+
+      new : Has v a b
+      new = omega (arith, hot-here bitOr max bit-or w a b long hb, at-le w a b)
+
+      gives : (x y : ℕ) → y < 128 → Has v x y → Has w x y ⊎ ((x ≡ a) × (y ≡ b))
+      gives x y hy h = by (both x y a b)
+        where
+          by : Dec ((x ≡ a) × (y ≡ b)) → Has w x y ⊎ ((x ≡ a) × (y ≡ b))
+          by (yes e) = inr e
+          by (no e) = inl (sym (there x y hy e) ∙ h)
+
+      keeps : (x y : ℕ) → y < 128 → Has w x y → Has v x y
+      keeps x y hy h = by (both x y a b)
+        where
+          by : Dec ((x ≡ a) × (y ≡ b)) → Has v x y
+          by (yes e) = rw (e .0, e .1) new
+          by (no e) = there x y hy e ∙ h
+
+  -- the word with the bit taken out
+  pub removed : Removed w (set w cell (bitLess (getD w cell 0) (hot (b % 64)))) a b
+  removed = record { gives = gives; keeps = λ x y hy ne h. there x y hy ne ∙ h; gone = gone }
+    where
+      v : List ℕ
+      v = set w cell (bitLess (getD w cell 0) (hot (b % 64)))
+
+      there : (x y : ℕ) → y < 128 → ((x ≡ a) × (y ≡ b) → ⊥) → at v x y ≡ at w x y
+      there x y hy = hot-there bitLess _-_ bit-less w a b long hb x y hy (λ z h. omega arith)
+
+      gone : Has v a b → ⊥
+      gone h = omega (arith, hot-here bitLess _-_ bit-less w a b long hb, at-le w a b)
+
+      gives : (x y : ℕ) → y < 128 → Has v x y → Has w x y
+      gives x y hy h = by (both x y a b)
+        where
+          by : Dec ((x ≡ a) × (y ≡ b)) → Has w x y
+          by (yes e) = absurd (gone (rw (e .0, e .1) at h))
+          by (no e) = sym (there x y hy e) ∙ h
+
+-- a row after 0 is stored in both its words
+pub emptied : (w : List ℕ) (a : ℕ) → 2 * a + 1 < length w → Emptied w (set (set w (2 * a) 0) (2 * a + 1) 0) a
+unfolding at
+emptied w a long = record { row = row; rest = λ x y hy ne. at-other w a 0 0 long x y hy ne }
+  where
+    row : (y : ℕ) → y < 128 → Has (set (set w (2 * a) 0) (2 * a + 1) 0) a y → ⊥
+    row y hy h = by (decLt y 64)
+      where
+        none : getD (set (set w (2 * a) 0) (2 * a + 1) 0) (2 * a + y / 64) 0 ≡ 0 → ⊥
+        none e = let f = sym h ∙ ap (λ (z : ℕ). bit z (y % 64)) e ∙ bit-zero (y % 64) in omega arith
+
+        by : Dec (y < 64) → ⊥
+        by (yes l) = none (low-word w a 0 0 long y l)
+        by (no l) = none (high-word w a 0 0 long y (omega arith) hy)
+
+-- words of no bits
+pub blank : (w : List ℕ) → ((j : ℕ) → j < length w → getD w j 0 ≡ 0) → Blank w
+unfolding at
+blank w z x y hy h = by (decLt (2 * x + y / 64) (length w))
+  where
+    no-bit : getD w (2 * x + y / 64) 0 ≡ 0 → ⊥
+    no-bit e =
+        let f : at w x y ≡ 0 = ap (λ (u : ℕ). bit u (y % 64)) e ∙ bit-zero (y % 64) in
+        omega arith
+
+    by : Dec (2 * x + y / 64 < length w) → ⊥
+    by (yes l) = no-bit (z (2 * x + y / 64) l)
+    by (no l) = no-bit (List·getD-eq-default w 0 (omega arith))
+
+-- what a test of a bit says
+pub tells-has : (w : List ℕ) (a b : ℕ) (r : Bool) → r ≡ eqb (bit (getD w (2 * a + b / 64) 0) (b % 64)) 1 → Tells r (Has w a b)
+unfolding at
+tells-has w a b true e = eqb-true _ _ (sym e)
+tells-has w a b false e = eqb-false _ _ (sym e)
+
+-- ---- two rows with a node in common
+
+module _ (w s : List ℕ) (x z : ℕ) where
+  at-low : (u : List ℕ) (a i : ℕ) → i < 64 → at u a i ≡ bit (getD u (2 * a) 0) i
+  unfolding at
+  at-low u a i h =
+      let e : 2 * a + i / 64 ≡ 2 * a = omega arith in
+      let f : i % 64 ≡ i = omega arith in
+      cc
+
+  at-high : (u : List ℕ) (a i : ℕ) → i < 64 → at u a (64 + i) ≡ bit (getD u (2 * a + 1) 0) i
+  unfolding at
+  at-high u a i h =
+      let e : 2 * a + (64 + i) / 64 ≡ 2 * a + 1 = omega arith in
+      let f : (64 + i) % 64 ≡ i = omega arith in
+      cc
+
+  pub meet-low : getD w (2 * x) 0 < 2 ^ 64 → getD s (2 * z) 0 < 2 ^ 64 → (bitAnd (getD w (2 * x) 0) (getD s (2 * z) 0) ≡ 0 → ⊥) → Meet w x s z
+  meet-low hw hs ne =
+      let p = some-bit 64 (bitAnd (getD w (2 * x) 0) (getD s (2 * z) 0)) (and-lt 64 (getD w (2 * x) 0) (getD s (2 * z) 0) hw hs) ne in
+      let i = p .0 in
+      let hi = p .1 in
+      let b = p .2 in
+      let c = bit-and (getD w (2 * x) 0) (getD s (2 * z) 0) i in
+      let lw = bit-le (getD w (2 * x) 0) i in
+      let ls = bit-le (getD s (2 * z) 0) i in
+      (i, omega arith, at-low w x i hi ∙ omega arith, at-low s z i hi ∙ omega arith)
+
+  pub meet-high : getD w (2 * x + 1) 0 < 2 ^ 64 → getD s (2 * z + 1) 0 < 2 ^ 64 → (bitAnd (getD w (2 * x + 1) 0) (getD s (2 * z + 1) 0) ≡ 0 → ⊥) → Meet w x s z
+  meet-high hw hs ne =
+      let p = some-bit 64 (bitAnd (getD w (2 * x + 1) 0) (getD s (2 * z + 1) 0)) (and-lt 64 (getD w (2 * x + 1) 0) (getD s (2 * z + 1) 0) hw hs) ne in
+      let i = p .0 in
+      let hi = p .1 in
+      let b = p .2 in
+      let c = bit-and (getD w (2 * x + 1) 0) (getD s (2 * z + 1) 0) i in
+      let lw = bit-le (getD w (2 * x + 1) 0) i in
+      let ls = bit-le (getD s (2 * z + 1) 0) i in
+      (64 + i, omega arith, at-high w x i hi ∙ omega arith, at-high s z i hi ∙ omega arith)
+
+  pub meet-none : bitAnd (getD w (2 * x) 0) (getD s (2 * z) 0) ≡ 0 → bitAnd (getD w (2 * x + 1) 0) (getD s (2 * z + 1) 0) ≡ 0 → Meet w x s z → ⊥
+  meet-none el eh m = by (decLt y 64)
+    where
+      y : ℕ
+      y = m .0
+
+      by : Dec (m .0 < 64) → ⊥
+      by (yes h) =
+          let a = sym (at-low w x (m .0) h) ∙ m .2 in
+          let b = sym (at-low s z (m .0) h) ∙ m .3 in
+          let c = bit-and (getD w (2 * x) 0) (getD s (2 * z) 0) (m .0) in
+          let e : bit (bitAnd (getD w (2 * x) 0) (getD s (2 * z) 0)) (m .0) ≡ 0 = ap (λ (u : ℕ). bit u (m .0)) el ∙ bit-zero (m .0) in
+          omega arith
+      by (no h) =
+          let l = m .1 in
+          let q : 64 + (m .0 - 64) ≡ m .0 = omega arith in
+          let a = sym (at-high w x (m .0 - 64) (omega arith)) ∙ ap (λ (u : ℕ). at w x u) q ∙ m .2 in
+          let b = sym (at-high s z (m .0 - 64) (omega arith)) ∙ ap (λ (u : ℕ). at s z u) q ∙ m .3 in
+          let c = bit-and (getD w (2 * x + 1) 0) (getD s (2 * z + 1) 0) (m .0 - 64) in
+          let e : bit (bitAnd (getD w (2 * x + 1) 0) (getD s (2 * z + 1) 0)) (m .0 - 64) ≡ 0 = ap (λ (u : ℕ). bit u (m .0 - 64)) eh ∙ bit-zero (m .0 - 64) in
+          omega arith
+
+  pub meet-last : bitAnd (getD w (2 * x) 0) (getD s (2 * z) 0) ≡ 0 → getD w (2 * x + 1) 0 < 2 ^ 64 → getD s (2 * z + 1) 0 < 2 ^ 64
+      → Tells (not (eqb (bitAnd (getD w (2 * x + 1) 0) (getD s (2 * z + 1) 0)) 0)) (Meet w x s z)
+  meet-last e hw hs = by (eqb (bitAnd (getD w (2 * x + 1) 0) (getD s (2 * z + 1) 0)) 0) refl
+    where
+      by : (b : Bool) → eqb (bitAnd (getD w (2 * x + 1) 0) (getD s (2 * z + 1) 0)) 0 ≡ b → Tells (not b) (Meet w x s z)
+      by true q = meet-none e (eqb-true _ _ q)
+      by false q = meet-high hw hs (eqb-false _ _ q)
+
+-- ---- every word
+
+module _ (u w v : List ℕ) (eu : length u ≡ length w) (ev : length v ≡ length w) where
+  pub common : ((j : ℕ) → j < length w → getD v j 0 ≡ bitAnd (getD w j 0) (getD u j 0)) → Common u w v
+  common each =
+      record {
+        gives = λ a b hb h. (omega (arith, of a b, at-le w a b, at-le u a b), omega (arith, of a b, at-le w a b, at-le u a b));
+        keeps = λ a b hb p q. omega (arith, of a b);
+      }
+    where
+      of : (a b : ℕ) → at v a b ≡ min (at w a b) (at u a b)
+      of = wordwise bitAnd min bit-and u w v eu ev (and-zero-l 0) each
+
+  pub united : ((j : ℕ) → j < length w → getD v j 0 ≡ bitOr (getD w j 0) (getD u j 0)) → United u w v
+  united each =
+      record {
+        gives = gives;
+        keeps = λ a b hb h. omega (arith, of a b, at-le u a b);
+        brings = λ a b hb h. omega (arith, of a b, at-le w a b);
+      }
+    where
+      of : (a b : ℕ) → at v a b ≡ max (at w a b) (at u a b)
+      of = wordwise bitOr max bit-or u w v eu ev (or-zero-l 0) each
+
+      gives : (a b : ℕ) → b < 128 → Has v a b → Has w a b ⊎ Has u a b
+      gives a b hb h = by (ℕ-discrete (at w a b) 1)
+        where
+          by : Dec (at w a b ≡ 1) → Has w a b ⊎ Has u a b
+          by (yes e) = inl e
+          by (no e) = inr (omega (arith, of a b, at-le w a b, at-le u a b))
+
+  pub without : ((j : ℕ) → j < length w → getD v j 0 ≡ bitLess (getD w j 0) (getD u j 0)) → Without u w v
+  without each =
+      record {
+        gives = λ a b hb h. (omega (arith, of a b, at-le w a b, at-le u a b), λ q. omega (arith, of a b, at-le w a b));
+        keeps = λ a b hb p ne. omega (arith, of a b, at-le u a b);
+      }
+    where
+      of : (a b : ℕ) → at v a b ≡ at w a b - at u a b
+      of = wordwise bitLess _-_ bit-less u w v eu ev refl each
+
+-- a list of which the words below i are combined with those of u, and the others are as they were
+pub record Done (op : ℕ → ℕ → ℕ) (u w v : List ℕ) (i : ℕ) : Type 0 where
+  pub long : length v ≡ length w
+  pub done : (j : ℕ) → j < i → getD v j 0 ≡ op (getD w j 0) (getD u j 0)
+  pub ahead : (j : ℕ) → i ≤ j → getD v j 0 ≡ getD w j 0
+
+module _ (op : ℕ → ℕ → ℕ) (u w : List ℕ) where
+  pub done-none : Done op u w w 0
+  done-none = record { long = refl; done = λ j h. absurd (omega arith); ahead = λ j h. refl }
+
+  pub done-more : (v : List ℕ) (i : ℕ) → i < length w → Done op u w v i → Done op u w (set v i (op (getD v i 0) (getD u i 0))) (i + 1)
+  done-more v i hi g =
+      let e = g .long in
+      record {
+        long = simp length-set e;
+        done = below-more (λ (j : ℕ). getD (set v i x) j 0 ≡ op (getD w j 0) (getD u j 0)) i
+            (λ j h. getD-set-other v i j x 0 (omega arith) ∙ g .done j h)
+            (getD-set-same v i x 0 (omega arith) ∙ ap (λ (z : ℕ). op z (getD u i 0)) (g .ahead i (omega arith)));
+        ahead = λ j h. getD-set-other v i j x 0 (omega arith) ∙ g .ahead j (omega arith);
+      }
+    where
+      x : ℕ
+      x = op (getD v i 0) (getD u i 0)
