@@ -2,9 +2,12 @@
 ghost use mathlib.Core.Path.{_≡_};
 ghost use Prim.Native.Nat.{_+_, _*_, _<_, _≤_};
 ghost use lib.ListN.{length};
-ghost use Rattle.reach.specs.Rows.{Tells, Has, Blank, Meet};
+ghost use Rattle.reach.specs.Rows.{Tells, Has, Holds, Low, Blank, Meet};
 ghost use Rattle.reach.specs.Touched.{Added, Removed, Poured, Sifted, Emptied, Least};
-ghost use Rattle.reach.specs.Whole.{Common, United, Without};
+ghost use Rattle.reach.specs.Whole.{Through, Then, Turned, From, To, Among, Away, Common, United, Without, Passed, Pouring, Turning};
+ghost use Rattle.reach.specs.Links.{Linked, Walked};
+ghost use Rattle.listing.specs.Bytes.{countN, nodesOf, Whole};
+ghost use Rattle.order.specs.Walks.{Succ};
 
 // Whether b stands in row a.
 pub fn has(w: &[u64], a: usize, b: usize) -> bool
@@ -146,5 +149,159 @@ pub fn take_away(u: &[u64], w: &mut [u64])
     for i in 0..w.len() {
         let x = w[i];
         w[i] = x ^ (x & u[i]);
+    }
+}
+
+// Lets k lie inside: whoever reaches k reaches all that k reaches.
+fn pass(n: usize, w: &mut [u64; 256], k: usize)
+    requires { ⌜ (n ≤ 128) × (k < n) ⌝ }
+    ensures { λ _. ⌜ Passed (now (w .entry)) (now (w .exit)) n k ⌝ }
+{
+    for a in 0..n {
+        if has(w, a, k) {
+            or_row(w, a, k);
+        }
+    }
+}
+
+// Turns links into walks that only nodes of m lie inside of.
+pub fn close(n: usize, m: &[u64; 2], w: &mut [u64; 256])
+    requires { ⌜ (n ≤ 128) × Low n (now w) ⌝ }
+    ensures { λ _. ⌜ Holds (now (w .exit)) n (Through n (now (w .entry)) (now (m .entry))) ⌝ }
+{
+    for k in 0..n {
+        if has(m, 0, k) {
+            pass(n, w, k);
+        }
+    }
+}
+
+// Puts b into row a, if b is a node.
+fn link(n: usize, w: &mut [u64], a: usize, b: u8)
+    requires { ⌜ (n ≤ 128) × (2 * a + 1 < length (now w)) ⌝ }
+    ensures { λ _. ⌜ Linked (now (w .entry)) (now (w .exit)) n a b ⌝ }
+{
+    let y = listing::wide(b);
+    if y < n {
+        put(w, a, y);
+    }
+}
+
+// The links of a listing.
+pub fn links(bytes: &[u8], w: &mut [u64; 256])
+    requires { ⌜ Whole (now bytes) ⌝ }
+    ensures { λ _. ⌜ Holds (now (w .exit)) (countN (now (bytes .entry))) (Succ (nodesOf (now (bytes .entry)))) ⌝ }
+{
+    let n = listing::node_count(bytes);
+    clear(w);
+    for a in 0..n {
+        link(n, w, a, listing::first_at(bytes, a));
+        link(n, w, a, listing::second_at(bytes, a));
+    }
+}
+
+// The walks of a listing that only nodes of m lie inside of.
+pub fn walks(bytes: &[u8], m: &[u64; 2], w: &mut [u64; 256])
+    requires { ⌜ Whole (now bytes) ⌝ }
+    ensures { λ _. ⌜ Holds (now (w .exit)) (countN (now (bytes .entry))) (Walked (nodesOf (now (bytes .entry))) (now (m .entry))) ⌝ }
+{
+    links(bytes, w);
+    close(listing::node_count(bytes), m, w);
+}
+
+// Puts into row x of v what is two steps away, by r and then by w.
+fn compose_row(n: usize, r: &[u64; 256], w: &[u64; 256], v: &mut [u64; 256], x: usize)
+    requires { ⌜ (n ≤ 128) × (x < n) ⌝ }
+    ensures { λ _. ⌜ Pouring (now (r .entry)) (now (w .entry)) (now (v .entry)) (now (v .exit)) x n ⌝ }
+{
+    for c in 0..n {
+        if has(r, x, c) {
+            pour(w, c, v, x);
+        }
+    }
+}
+
+// All that is two steps away, by r and then by w.
+pub fn compose(n: usize, r: &[u64; 256], w: &[u64; 256], v: &mut [u64; 256])
+    requires { ⌜ (n ≤ 128) × Low n (now r) × Low n (now w) ⌝ }
+    ensures { λ _. ⌜ Holds (now (v .exit)) n (Then n (now (r .entry)) (now (w .entry))) ⌝ }
+{
+    clear(v);
+    for x in 0..n {
+        compose_row(n, r, w, v, x);
+    }
+}
+
+// Puts a into each row of v that row a of w names.
+fn turn_row(n: usize, w: &[u64; 256], v: &mut [u64; 256], a: usize)
+    requires { ⌜ (n ≤ 128) × (a < n) ⌝ }
+    ensures { λ _. ⌜ Turning (now (w .entry)) (now (v .entry)) (now (v .exit)) a n ⌝ }
+{
+    for b in 0..n {
+        if has(w, a, b) {
+            put(v, b, a);
+        }
+    }
+}
+
+// The relation turned round.
+pub fn turn(n: usize, w: &[u64; 256], v: &mut [u64; 256])
+    requires { ⌜ (n ≤ 128) × Low n (now w) ⌝ }
+    ensures { λ _. ⌜ Holds (now (v .exit)) n (Turned (now (w .entry))) ⌝ }
+{
+    clear(v);
+    for a in 0..n {
+        turn_row(n, w, v, a);
+    }
+}
+
+// Keeps what ends in s.
+pub fn keep_columns(n: usize, s: &[u64; 2], w: &mut [u64; 256])
+    requires { ⌜ (n ≤ 128) × Low n (now w) ⌝ }
+    ensures { λ _. ⌜ Holds (now (w .exit)) n (To (now (s .entry)) (now (w .entry))) ⌝ }
+{
+    for a in 0..n {
+        sift(s, 0, w, a);
+    }
+}
+
+// Keeps what starts in s.
+pub fn keep_rows(n: usize, s: &[u64; 2], w: &mut [u64; 256])
+    requires { ⌜ (n ≤ 128) × Low n (now w) ⌝ }
+    ensures { λ _. ⌜ Holds (now (w .exit)) n (From (now (s .entry)) (now (w .entry))) ⌝ }
+{
+    for a in 0..n {
+        if !has(s, 0, a) {
+            empty_row(w, a);
+        }
+    }
+}
+
+// Keeps what starts and ends in s.
+pub fn restrict(n: usize, s: &[u64; 2], w: &mut [u64; 256])
+    requires { ⌜ (n ≤ 128) × Low n (now w) ⌝ }
+    ensures { λ _. ⌜ Holds (now (w .exit)) n (Among (now (s .entry)) (now (w .entry))) ⌝ }
+{
+    keep_columns(n, s, w);
+    keep_rows(n, s, w);
+}
+
+// What ends in s, into v.
+pub fn columns(n: usize, s: &[u64; 2], w: &[u64; 256], v: &mut [u64; 256])
+    requires { ⌜ (n ≤ 128) × Low n (now w) ⌝ }
+    ensures { λ _. ⌜ Holds (now (v .exit)) n (To (now (s .entry)) (now (w .entry))) ⌝ }
+{
+    clear(v);
+    add_all(w, v);
+    keep_columns(n, s, v);
+}
+
+// Keeps what leads elsewhere.
+pub fn no_loops(n: usize, w: &mut [u64; 256])
+    requires { ⌜ (n ≤ 128) × Low n (now w) ⌝ }
+    ensures { λ _. ⌜ Holds (now (w .exit)) n (Away (now (w .entry))) ⌝ }
+{
+    for a in 0..n {
+        take_out(w, a, a);
     }
 }

@@ -1,0 +1,57 @@
+-- `reach::keep_rows` meets its contract. Assumes nothing.
+use borrow.Author.Needs.{needs}
+use native.Mathlib.Omega.{arith}
+use mathlib.Core.Path.{_≡_}
+use mathlib.Core.Logic.{⊎-elim}
+use Prim.Native.Nat.{_≤_, _<_, _-_}
+use Rattle.reach.specs.Rows.{Has}
+use Rattle.reach.proofs.Thinned.{Thinned, thinned-none, thinned-more, thinned-all, stays, drops, tells-no, tells-yes}
+use Rattle.reach.proofs.keep_rows.Statement.{statement}
+use Rattle.reach.proofs.keep_rows.Tie as tie
+
+abbrev Inv-loop : tie.InvT-loop
+Inv-loop n s w₀ a₀ w a = (a ≤ n) × Thinned (λ x y. Has s 0 x) w₀ w a
+
+abbrev μ-loop : tie.MeasureT-loop
+μ-loop n s w₀ a₀ w a = n - a
+
+loop-holds : tie.Need-loop-holds Inv-loop μ-loop
+loop-holds c = (search needs, thinned-none _)
+
+has-requires : tie.Need-has-requires Inv-loop μ-loop
+has-requires c κs = search needs
+
+empty-row-requires : tie.Need-empty-row-requires Inv-loop μ-loop
+empty-row-requires c κs = search needs
+
+add-a : tie.Need-add-a Inv-loop μ-loop
+add-a c = omega arith
+
+loop-less : tie.Need-loop-less Inv-loop μ-loop
+loop-less c = omega arith
+
+loop-again : tie.Need-loop-again Inv-loop μ-loop
+loop-again c =
+    let inv = c .before .before .before .before .loop .inv in
+    let s = c .before .before .before .before .before .args .s .now in
+    ⊎-elim
+    (λ q. (omega arith, rw (q .3) (thinned-more _ _ _ _ (inv .1) (drops s _ _ _ (tells-no _ (c .before .has .result) (q .0 .taken) (c .before .has .ensures)) (q .2 .ensures)))))
+    (λ q. (omega arith, rw (q .1) (thinned-more _ _ _ _ (inv .1) (stays s _ _ (tells-yes _ (c .before .has .result) (q .0 .left) (c .before .has .ensures))))))
+    (c .if1 .came)
+
+returns : tie.Need-returns Inv-loop μ-loop
+returns c = let p = c .before .before .pre in let e : c .before .loop .a ≡ c .before .before .args .n = omega arith in thinned-all _ _ _ (p .0) (p .1) (rw e at (c .before .loop .inv .1))
+
+pub keep-rows-spec : {M : Type 1} → statement M
+keep-rows-spec =
+    tie.close
+    (tie.spec
+    Inv-loop
+    μ-loop
+    loop-holds
+    has-requires
+    empty-row-requires
+    add-a
+    loop-less
+    loop-again
+    returns)
