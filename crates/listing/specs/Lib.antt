@@ -4,3 +4,4 @@ pub mod Bytes
 pub mod Rules
 pub mod Answer
 pub mod Read
+pub mod Valid

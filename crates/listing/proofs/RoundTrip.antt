@@ -1,0 +1,116 @@
+-- Bytes to nodes and back: reading what was written, and writing what was read.
+-- Assumes nothing.
+use mathlib.Core.Path.{_≡_, refl, sym, ap, ap₂, _∙_}
+use mathlib.Core.List.{List, [], _∷_, _++_}
+use Prim.Native.Nat.{ℕ, zero, suc, _+_, _*_, _/_, _%_, _≤_, _<_}
+use native.Mathlib.Nat.{add-assoc, add-zero}
+use native.Mathlib.Numerals.{towards-suc}
+use native.Mathlib.Omega.{arith}
+use lib.ListN.{length, drop, drop-of-length-le}
+use lib.Seq.{getD-append-add, drop-cons}
+use Rattle.listing.specs.Limits.{HEADING, RECORD}
+use Rattle.listing.specs.Node.{Node, Listing}
+use Rattle.listing.specs.Bytes.{byte, word, countF, countN, recordAt, nodeFrom, nodesFrom, nodesOf, headingBytes, nodeBytes, nodesBytes, bytesOf}
+use Rattle.listing.specs.Read.{Admitted}
+use Rattle.listing.specs.Valid.{Headed}
+use Rattle.listing.proofs.Nodes.{nodes-length}
+use Rattle.listing.proofs.Headed.{admitted-headed}
+
+-- ── Reading what was written ────────────────────────────────────────────────
+pub nodes-bytes-length : (L : Listing) → length (nodesBytes L) ≡ RECORD * length L
+nodes-bytes-length [] = refl
+nodes-bytes-length (n ∷ ns) = omega (arith, nodes-bytes-length ns)
+
+-- "The whole is exactly 7 + 6N bytes"
+pub bytes-length : (f : ℕ) (L : Listing) → length (bytesOf f L) ≡ recordAt (length L)
+unfolding bytesOf
+bytes-length f L = omega (arith, nodes-bytes-length L)
+
+record-read : (n : Node) (rest : List ℕ) → nodeFrom (nodeBytes n ++ rest) 0 ≡ n
+record-read n rest = λ i. record { routine = n .routine; kind = n .kind; location = back i; first = n .first; second = n .second }
+  where
+    back : word (n .location % 256) (n .location / 256) ≡ n .location
+    back = omega arith
+
+past : (us s : List ℕ) (o k : ℕ) → byte (us ++ s) (length us + o + k) ≡ byte s (o + k)
+past us s o k = rw add-assoc (getD-append-add us s (o + k) 0)
+
+record-past : (us s : List ℕ) (o : ℕ) → nodeFrom (us ++ s) (length us + o) ≡ nodeFrom s o
+record-past us s o = λ i. record {
+  routine = getD-append-add us s o 0 i;
+  kind = past us s o 1 i;
+  location = word (past us s o 2 i) (past us s o 3 i);
+  first = past us s o 4 i;
+  second = past us s o 5 i;
+}
+
+-- bytes put before the records move them on
+records-past : (us s : List ℕ) (o k : ℕ) → nodesFrom (us ++ s) (length us + o) k ≡ nodesFrom s o k
+records-past us s o zero = refl
+records-past us s o (suc k) = ap₂ (λ (x : Node) (xs : Listing). x ∷ xs) (record-past us s o) (rw add-assoc (records-past us s (o + RECORD) k))
+
+records-read : (L : Listing) → nodesFrom (nodesBytes L) 0 (length L) ≡ L
+records-read [] = refl
+records-read (n ∷ ns) = ap₂ (λ (x : Node) (xs : Listing). x ∷ xs) (record-read n (nodesBytes ns)) (records-past (nodeBytes n) (nodesBytes ns) 0 (length ns) ∙ records-read ns)
+
+pub read-countF : (f : ℕ) (L : Listing) → countF (bytesOf f L) ≡ f
+unfolding bytesOf
+read-countF f L = refl
+
+pub read-countN : (f : ℕ) (L : Listing) → countN (bytesOf f L) ≡ length L
+unfolding bytesOf
+read-countN f L = refl
+
+-- READING WHAT WAS WRITTEN gives the nodes back
+pub read-written : (f : ℕ) (L : Listing) → nodesOf (bytesOf f L) ≡ L
+unfolding nodesOf bytesOf
+read-written f L = records-past (headingBytes f (length L)) (nodesBytes L) 0 (length L) ∙ records-read L
+
+-- ── Writing what was read ───────────────────────────────────────────────────
+-- k bytes from place o on
+abbrev run : List ℕ → ℕ → ℕ → List ℕ
+run s o zero = []
+run s o (suc k) = byte s o ∷ run s (suc o) k
+
+drop-run : (s : List ℕ) (o k : ℕ) → o + k ≤ length s → drop o s ≡ run s o k ++ drop (o + k) s
+drop-run s o zero h = rw add-zero
+drop-run s o (suc k) h =
+    let next : suc o + k ≡ o + suc k = omega arith in
+    drop-cons s o 0 (omega arith)
+    ∙ ap (λ (l : List ℕ). byte s o ∷ l) (drop-run s (suc o) k (omega arith) ∙ ap (λ (j : ℕ). run s (suc o) k ++ drop j s) next)
+
+-- a byte is below 256
+abbrev pub Bytes : List ℕ → Type 0
+Bytes s = (i : ℕ) → byte s i < 256
+
+record-written : (s : List ℕ) (o : ℕ) → Bytes s → nodeBytes (nodeFrom s o) ≡ run s o RECORD
+record-written s o b =
+    let low : word (byte s (o + 2)) (byte s (o + 3)) % 256 ≡ byte s (o + 2) = omega (arith, b (o + 2)) in
+    let high : word (byte s (o + 2)) (byte s (o + 3)) / 256 ≡ byte s (o + 3) = omega (arith, b (o + 2)) in
+    rw (low, high) (simp towards-suc)
+
+records-written : (s : List ℕ) (o k : ℕ) → Bytes s → length s ≡ o + RECORD * k → nodesBytes (nodesFrom s o k) ≡ drop o s
+records-written s o zero b h = sym (drop-of-length-le s {i = o} (omega arith))
+records-written s o (suc k) b h =
+    ap₂ (λ (x y : List ℕ). x ++ y) (record-written s o b) (records-written s (o + RECORD) k b (omega arith))
+    ∙ sym (drop-run s o RECORD (omega arith))
+
+heading-written : (s : List ℕ) → Headed s → headingBytes (countF s) (countN s) ≡ run s 0 HEADING
+heading-written s h =
+    let v₀ : byte s 3 ≡ 1 = omega (arith, h .version) in
+    let v₁ : byte s 4 ≡ 0 = omega (arith, h .version) in
+    rw (h .mark₀, h .mark₁, h .mark₂, v₀, v₁)
+
+nodes-written : (s : List ℕ) → Bytes s → length s ≡ recordAt (countN s) → nodesBytes (nodesOf s) ≡ drop HEADING s
+unfolding nodesOf
+nodes-written s b h = records-written s HEADING (countN s) b h
+
+-- WRITING WHAT WAS READ gives the bytes back
+pub write-read : (s : List ℕ) → Bytes s → Admitted s → bytesOf (countF s) (nodesOf s) ≡ s
+unfolding bytesOf
+write-read s b e =
+    let h = admitted-headed s e in
+    ap₂ (λ (x y : List ℕ). x ++ y)
+    (ap (headingBytes (countF s)) (nodes-length s) ∙ heading-written s h)
+    (nodes-written s b (h .exact))
+    ∙ sym (drop-run s 0 HEADING (h .long))
