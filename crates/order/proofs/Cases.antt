@@ -15,9 +15,16 @@ right? c = check (c .question) (patched (c .listing) (c .map)) (c .verdict)
 all-right : (cs : List Case) → T (every right? cs) → All Right cs
 all-right cs t = in-all Right cs (λ c i. check-sound (c .question) (patched (c .listing) (c .map)) (c .verdict) (every-in right? cs t c i))
 
+-- what is computed: every row passes the check
+shortcuts-pass : T (every right? shortcuts)
+shortcuts-pass = tt
+
+cases-pass : T (every right? cases)
+cases-pass = tt
+
 pub shortcuts-right : All Right shortcuts
-shortcuts-right = all-right shortcuts tt
+shortcuts-right = all-right shortcuts shortcuts-pass
 
 -- EVERY ROW OF THE TABLE IS RIGHT
 pub cases-right : All Right cases
-cases-right = all-right cases tt
+cases-right = all-right cases cases-pass
