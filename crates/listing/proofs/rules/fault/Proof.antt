@@ -21,57 +21,57 @@ returns : tie.Need-returns
 unfolding nodeRules
 returns c = simp (sym (c .before .wrong-routine .ensures) ∙ c .if1 .taken)
 
-past1 : (c : tie.Else1) → Past (c .before .before .before .args .bytes) (c .before .before .before .args .i) 1
+past-routine : (c : tie.Else1) → Past (c .before .before .before .args .bytes) (c .before .before .before .args .i) 1
 unfolding nodeRules
-past1 c = simp (sym (c .before .wrong-routine .ensures) ∙ c .if1 .left)
+past-routine c = simp (sym (c .before .wrong-routine .ensures) ∙ c .if1 .left)
 
 wrong-kind-requires : tie.Need-wrong-kind-requires
 wrong-kind-requires c κs = search needs
 
 returns-2 : tie.Need-returns-2
 unfolding nodeRules
-returns-2 c = past1 (c .before .before) ∙ simp (sym (c .before .wrong-kind .ensures) ∙ c .if2 .taken)
+returns-2 c = past-routine (c .before .before) ∙ simp (sym (c .before .wrong-kind .ensures) ∙ c .if2 .taken)
 
-past2 : (c : tie.Else2) → Past (c .before .before .before .before .before .args .bytes) (c .before .before .before .before .before .args .i) 2
+past-kind : (c : tie.Else2) → Past (c .before .before .before .before .before .args .bytes) (c .before .before .before .before .before .args .i) 2
 unfolding nodeRules
-past2 c = past1 (c .before .before) ∙ simp (sym (c .before .wrong-kind .ensures) ∙ c .if2 .left)
+past-kind c = past-routine (c .before .before) ∙ simp (sym (c .before .wrong-kind .ensures) ∙ c .if2 .left)
 
 wrong-location-requires : tie.Need-wrong-location-requires
 wrong-location-requires c κs = search needs
 
 returns-3 : tie.Need-returns-3
 unfolding nodeRules
-returns-3 c = past2 (c .before .before) ∙ simp (sym (c .before .wrong-location .ensures) ∙ c .if3 .taken)
+returns-3 c = past-kind (c .before .before) ∙ simp (sym (c .before .wrong-location .ensures) ∙ c .if3 .taken)
 
-past3 : (c : tie.Else3) → Past (c .before .before .before .before .before .before .before .args .bytes) (c .before .before .before .before .before .before .before .args .i) 3
+past-location : (c : tie.Else3) → Past (c .before .before .before .before .before .before .before .args .bytes) (c .before .before .before .before .before .before .before .args .i) 3
 unfolding nodeRules
-past3 c = past2 (c .before .before) ∙ simp (sym (c .before .wrong-location .ensures) ∙ c .if3 .left)
+past-location c = past-kind (c .before .before) ∙ simp (sym (c .before .wrong-location .ensures) ∙ c .if3 .left)
 
 wrong-successor-requires : tie.Need-wrong-successor-requires
 wrong-successor-requires c κs = search needs
 
 returns-4 : tie.Need-returns-4
 unfolding nodeRules
-returns-4 c = past3 (c .before .before) ∙ simp (sym (c .before .wrong-successor .ensures) ∙ c .if4 .taken)
+returns-4 c = past-location (c .before .before) ∙ simp (sym (c .before .wrong-successor .ensures) ∙ c .if4 .taken)
 
-past4 : (c : tie.Else4) → Past (c .before .before .before .before .before .before .before .before .before .args .bytes) (c .before .before .before .before .before .before .before .before .before .args .i) 4
+past-successor : (c : tie.Else4) → Past (c .before .before .before .before .before .before .before .before .before .args .bytes) (c .before .before .before .before .before .before .before .before .before .args .i) 4
 unfolding nodeRules
-past4 c = past3 (c .before .before) ∙ simp (sym (c .before .wrong-successor .ensures) ∙ c .if4 .left)
+past-successor c = past-location (c .before .before) ∙ simp (sym (c .before .wrong-successor .ensures) ∙ c .if4 .left)
 
 wrong-order-requires : tie.Need-wrong-order-requires
 wrong-order-requires c κs = search needs
 
 returns-5 : tie.Need-returns-5
 unfolding nodeRules
-returns-5 c = past4 (c .before .before) ∙ simp (sym (c .before .wrong-order .ensures) ∙ c .if5 .taken)
+returns-5 c = past-successor (c .before .before) ∙ simp (sym (c .before .wrong-order .ensures) ∙ c .if5 .taken)
 
-past5 : (c : tie.Else5) → Past (c .before .before .before .before .before .before .before .before .before .before .before .args .bytes) (c .before .before .before .before .before .before .before .before .before .before .before .args .i) 5
+past-order : (c : tie.Else5) → Past (c .before .before .before .before .before .before .before .before .before .before .before .args .bytes) (c .before .before .before .before .before .before .before .before .before .before .before .args .i) 5
 unfolding nodeRules
-past5 c = past4 (c .before .before) ∙ simp (sym (c .before .wrong-order .ensures) ∙ c .if5 .left)
+past-order c = past-successor (c .before .before) ∙ simp (sym (c .before .wrong-order .ensures) ∙ c .if5 .left)
 
 returns-6 : tie.Need-returns-6
 unfolding nodeRules
-returns-6 c = past5 c
+returns-6 c = past-order c
 
 pub fault-spec : {M : Type 1} → statement M
 fault-spec =

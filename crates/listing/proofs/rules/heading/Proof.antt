@@ -15,9 +15,9 @@ use Rattle.listing.proofs.rules.heading.Tie as tie
 abbrev Past : RefT (List ℕ) → ℕ → Type 0
 Past r k = firstOf (headingRules (now r)) ≡ firstOf (drop k (headingRules (now r)))
 
-past1 : (c : tie.Else1) → Past (c .before .before .args .bytes) 1
+past-length : (c : tie.Else1) → Past (c .before .before .args .bytes) 1
 unfolding headingRules
-past1 c = simp (le-ltb _ _ (c .if1 .left))
+past-length c = simp (le-ltb _ _ (c .if1 .left))
 
 returns : tie.Need-returns
 unfolding headingRules
@@ -28,22 +28,22 @@ wrong-mark-requires c κs = search needs
 
 returns-2 : tie.Need-returns-2
 unfolding headingRules
-returns-2 c = past1 (c .before .before) ∙ simp (sym (c .before .wrong-mark .ensures) ∙ c .if2 .taken)
+returns-2 c = past-length (c .before .before) ∙ simp (sym (c .before .wrong-mark .ensures) ∙ c .if2 .taken)
 
-past2 : (c : tie.Else2) → Past (c .before .before .before .before .args .bytes) 2
+past-mark : (c : tie.Else2) → Past (c .before .before .before .before .args .bytes) 2
 unfolding headingRules
-past2 c = past1 (c .before .before) ∙ simp (sym (c .before .wrong-mark .ensures) ∙ c .if2 .left)
+past-mark c = past-length (c .before .before) ∙ simp (sym (c .before .wrong-mark .ensures) ∙ c .if2 .left)
 
 version-requires : tie.Need-version-requires
 version-requires c κs = search needs
 
 returns-3 : tie.Need-returns-3
 unfolding headingRules
-returns-3 c = past2 (c .before .before) ∙ simp (sym (c .before .version .ensures), ne-eqb _ _ (c .if3 .taken))
+returns-3 c = past-mark (c .before .before) ∙ simp (sym (c .before .version .ensures), ne-eqb _ _ (c .if3 .taken))
 
-past3 : (c : tie.Else3) → Past (c .before .before .before .before .before .before .args .bytes) 3
+past-version : (c : tie.Else3) → Past (c .before .before .before .before .before .before .args .bytes) 3
 unfolding headingRules
-past3 c = past2 (c .before .before) ∙ simp (sym (c .before .version .ensures), eq-eqb _ _ (c .if3 .left))
+past-version c = past-mark (c .before .before) ∙ simp (sym (c .before .version .ensures), eq-eqb _ _ (c .if3 .left))
 
 shared-slice-read-wide : tie.Need-shared-slice-read-wide
 shared-slice-read-wide c = search needs
@@ -53,19 +53,19 @@ wide-requires c κs = search needs
 
 returns-4 : tie.Need-returns-4
 unfolding headingRules wrongF
-returns-4 c = past3 (c .before .before .before) ∙ simp (eq-eqb _ _ (sym (c .before .wide .ensures .0) ∙ c .if4 .taken))
+returns-4 c = past-version (c .before .before .before) ∙ simp (eq-eqb _ _ (sym (c .before .wide .ensures .0) ∙ c .if4 .taken))
 
 returns-5 : tie.Need-returns-5
 unfolding headingRules wrongF
 returns-5 c =
     let e = c .before .before .wide .ensures .0 in
-    past3 (c .before .before .before .before) ∙ simp (sym e, ne-eqb _ _ (c .before .if4 .left), lt-ltb _ _ (c .if5 .taken))
+    past-version (c .before .before .before .before) ∙ simp (sym e, ne-eqb _ _ (c .before .if4 .left), lt-ltb _ _ (c .if5 .taken))
 
-past4 : (c : tie.Else5) → Past (c .before .before .before .before .before .before .before .before .before .before .args .bytes) 4
+past-routines : (c : tie.Else5) → Past (c .before .before .before .before .before .before .before .before .before .before .args .bytes) 4
 unfolding headingRules wrongF
-past4 c =
+past-routines c =
     let e = c .before .before .wide .ensures .0 in
-    past3 (c .before .before .before .before) ∙ simp (sym e, ne-eqb _ _ (c .before .if4 .left), le-ltb _ _ (c .if5 .left))
+    past-version (c .before .before .before .before) ∙ simp (sym e, ne-eqb _ _ (c .before .if4 .left), le-ltb _ _ (c .if5 .left))
 
 shared-slice-read-wide-2 : tie.Need-shared-slice-read-wide-2
 shared-slice-read-wide-2 c = search needs
@@ -75,11 +75,11 @@ wide-requires-2 c κs = search needs
 
 returns-6 : tie.Need-returns-6
 unfolding headingRules
-returns-6 c = past4 (c .before .before .before) ∙ simp (sym (c .before .wide2 .ensures .0), lt-ltb _ _ (c .if6 .taken))
+returns-6 c = past-routines (c .before .before .before) ∙ simp (sym (c .before .wide2 .ensures .0), lt-ltb _ _ (c .if6 .taken))
 
-past5 : (c : tie.Else6) → Past (c .before .before .before .before .before .before .before .before .before .before .before .before .before .args .bytes) 5
+past-nodes : (c : tie.Else6) → Past (c .before .before .before .before .before .before .before .before .before .before .before .before .before .args .bytes) 5
 unfolding headingRules
-past5 c = past4 (c .before .before .before) ∙ simp (sym (c .before .wide2 .ensures .0), le-ltb _ _ (c .if6 .left))
+past-nodes c = past-routines (c .before .before .before) ∙ simp (sym (c .before .wide2 .ensures .0), le-ltb _ _ (c .if6 .left))
 
 mul-if7 : tie.Need-mul-if7
 mul-if7 c = search needs
@@ -89,11 +89,11 @@ add-if7 c = search needs
 
 returns-7 : tie.Need-returns-7
 unfolding headingRules
-returns-7 c = past5 (c .before) ∙ simp (sym (c .before .before .wide2 .ensures .0), ne-eqb _ _ (c .if7 .taken))
+returns-7 c = past-nodes (c .before) ∙ simp (sym (c .before .before .wide2 .ensures .0), ne-eqb _ _ (c .if7 .taken))
 
 returns-8 : tie.Need-returns-8
 unfolding headingRules
-returns-8 c = past5 (c .before) ∙ simp (sym (c .before .before .wide2 .ensures .0), eq-eqb _ _ (c .if7 .left))
+returns-8 c = past-nodes (c .before) ∙ simp (sym (c .before .before .wide2 .ensures .0), eq-eqb _ _ (c .if7 .left))
 
 pub heading-spec : {M : Type 1} → statement M
 heading-spec =
