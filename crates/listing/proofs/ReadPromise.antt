@@ -22,15 +22,15 @@ done-by : (r : Refusal) (n f m g : ℕ) → readBy r n f ≡ done m g 0 → (r �
 done-by passed n f m g e = (refl, sym (ap (λ (a : Answer). a .first) e), sym (ap (λ (a : Answer). a .second) e))
 done-by (refused j q) n f m g e = let z : _≡_ {A = ℕ} 2 0 = ap (λ (a : Answer). a .kind) e in absurd (omega arith)
 
--- what a caller learns of a refusal
-pub read-refused : (s : List ℕ) (k p : ℕ) → readSays (Refused k p) ≡ readOf s → firstOf (readRules s) ≡ refused k p
+-- what a caller that met a refusal learns
+pub read-refused : (s : List ℕ) (r : ReadAnswer) (k p : ℕ) → readSays r ≡ readOf s → r ≡ Refused k p → firstOf (readRules s) ≡ refused k p
 unfolding readOf
-read-refused s k p e = refused-by (firstOf (readRules s)) (countN s) (countF s) k p (sym e)
+read-refused s r k p e is = refused-by (firstOf (readRules s)) (countN s) (countF s) k p (sym e ∙ ap readSays is)
 
--- what a caller learns of a listing that was read
-pub read-good : (s : List ℕ) (l : Listing) → readSays (Good l) ≡ readOf s → Admitted s × (l .nodes ≡ countN s) × (l .routines ≡ countF s)
+-- what a caller that met a good listing learns
+pub read-good : (s : List ℕ) (r : ReadAnswer) (l : Listing) → readSays r ≡ readOf s → r ≡ Good l → Admitted s × (l .nodes ≡ countN s) × (l .routines ≡ countF s)
 unfolding readOf
-read-good s l e = done-by (firstOf (readRules s)) (countN s) (countF s) (l .nodes) (l .routines) (sym e)
+read-good s r l e is = done-by (firstOf (readRules s)) (countN s) (countF s) (l .nodes) (l .routines) (sym e ∙ ap readSays is)
 
 -- REFUSAL k AT p IS GIVEN EXACTLY IF RULE k APPLIES AT p AND NO EARLIER RULE DOES
 pub refused-exactly : (s : List ℕ) (r : ReadAnswer) → readSays r ≡ readOf s → (k p : ℕ) → (readSays r ≡ refusal k p) ↔ First (readRules s) k p
