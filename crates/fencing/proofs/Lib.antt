@@ -1,6 +1,6 @@
 pub mod Marks
 pub mod Putting
-pub mod Whole
+pub mod AllParts
 pub mod PatchedValid
 pub mod PatchedFenced
 pub mod Written

@@ -2,7 +2,7 @@
 -- Assumes nothing.
 use mathlib.Core.Path.{_≡_, refl, sym, ap, _∙_}
 use mathlib.Core.Bool.{Bool, true, false}
-use mathlib.Core.List.{List, [], _∷_}
+use mathlib.Core.List.{List, _∷_}
 use Prim.Native.Nat.{ℕ, _+_, _≤_, _<_}
 use native.Mathlib.Omega.{arith}
 use native.Mathlib.Numerals.{add-one}
@@ -24,14 +24,9 @@ marks-at bytes i = List·getD-map isMark bytes i 0
 pub next : {A : Type 0} (l : List A) (i : ℕ) (d : A) → i < length l → drop i l ≡ getD l i d ∷ drop (i + 1) l
 next l i d h = rw (add-one, drop-cons l i d)
 
-pub places-step : (b : Bool) (ms : Marks) (k : ℕ) → nextAfter b k + places ms ≡ k + places (b ∷ ms)
+places-step : (b : Bool) (ms : Marks) (k : ℕ) → nextAfter b k + places ms ≡ k + places (b ∷ ms)
 places-step true ms k = omega arith
 places-step false ms k = refl
-
-pub places-few : (ms : Marks) → places ms ≤ length ms
-places-few [] = omega arith
-places-few (true ∷ ms) = omega (arith, places-few ms)
-places-few (false ∷ ms) = omega (arith, places-few ms)
 
 -- the places are counted mark by mark
 pub places-next : (ms : Marks) (i k : ℕ) → i < length ms → nextAfter (marked ms i) k + places (drop (i + 1) ms) ≡ k + places (drop i ms)

@@ -101,7 +101,7 @@ module _ (L : Listing) (ms : Marks) where
         ∙ ap (sets out (recordAt k)) (sym fences-next)
         ∙ inv)
 
-  -- nothing is left to be put past the last node
+  -- NOTHING IS LEFT TO BE PUT PAST THE LAST NODE
   pub nodes-put : (o i k : ℕ) {out goal : List ℕ} → length L ≤ i → sets out o (keptFrom i k) ≡ goal → out ≡ goal
   nodes-put o i k {out} h inv = ap (λ (l : Listing). sets out o (nodesBytes (kept k l (drop i ms)))) (sym (drop-of-length-le L {i = i} h)) ∙ inv
 

@@ -9,7 +9,7 @@ use Rattle.listing.proofs.Nodes.{nodes-length}
 use Rattle.order.specs.Patched.{places}
 use Rattle.fencing.specs.Marks.{marksOf}
 use Rattle.fencing.proofs.Marks.{marks-length}
-use Rattle.fencing.proofs.Whole.{all-put}
+use Rattle.fencing.proofs.AllParts.{all-put}
 use borrow.Author.Needs.{needs}
 use Rattle.fencing.proofs.put_patched.Statement.{statement}
 use Rattle.fencing.proofs.put_patched.Tie as tie
