@@ -1,0 +1,4 @@
+pub mod Unset
+pub mod Levels
+pub mod Chains
+pub mod Going

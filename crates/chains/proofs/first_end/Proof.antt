@@ -1,0 +1,49 @@
+-- `chains::first_end` meets its contract. Assumes nothing.
+use borrow.Author.Needs.{needs}
+use native.Mathlib.Omega.{arith}
+use Prim.Native.Nat.{ℕ, _≤_, _<_, _-_}
+use borrow.Author.Count.{below-none, below-more}
+use Rattle.reach.specs.Rows.{Has}
+use Rattle.chains.proofs.first_end.Statement.{statement}
+use Rattle.chains.proofs.first_end.Tie as tie
+
+abbrev Inv-loop : tie.InvT-loop
+Inv-loop n w s c y₀ y = (y ≤ n) × ((z : ℕ) → z < y → Has w c z × Has s 0 z → ⊥)
+
+abbrev μ-loop : tie.MeasureT-loop
+μ-loop n w s c y₀ y = n - y
+
+loop-holds : tie.Need-loop-holds Inv-loop μ-loop
+loop-holds c = (search needs, below-none _)
+
+is-end-requires : tie.Need-is-end-requires Inv-loop μ-loop
+is-end-requires c κs = search needs
+
+returns : tie.Need-returns Inv-loop μ-loop
+returns c = record { low = omega arith; here = rw (c .if1 .taken) at (c .before .is-end .ensures); none = c .before .before .before .before .before .loop .inv .1 }
+
+add-y : tie.Need-add-y Inv-loop μ-loop
+add-y c = omega arith
+
+loop-less : tie.Need-loop-less Inv-loop μ-loop
+loop-less c = omega arith
+
+loop-again : tie.Need-loop-again Inv-loop μ-loop
+loop-again c = (omega arith, below-more _ _ (c .before .before .before .before .before .loop .inv .1) (rw (c .if1 .left) at (c .before .is-end .ensures)))
+
+returns-2 : tie.Need-returns-2 Inv-loop μ-loop
+returns-2 c = let h = c .before .before .pre .2 in let a = h .1 in absurd (c .before .loop .inv .1 (h .0) (omega arith) (h .2, h .3))
+
+pub first-end-spec : {M : Type 1} → statement M
+first-end-spec =
+    tie.close
+    (tie.spec
+    Inv-loop
+    μ-loop
+    loop-holds
+    is-end-requires
+    returns
+    add-y
+    loop-less
+    loop-again
+    returns-2)

@@ -1,0 +1,49 @@
+-- `chains::first_mid` meets its contract. Assumes nothing.
+use borrow.Author.Needs.{needs}
+use native.Mathlib.Omega.{arith}
+use Prim.Native.Nat.{ℕ, _≤_, _<_, _-_}
+use borrow.Author.Count.{below-none, below-more}
+use Rattle.reach.specs.Rows.{Has, Meet}
+use Rattle.chains.proofs.first_mid.Statement.{statement}
+use Rattle.chains.proofs.first_mid.Tie as tie
+
+abbrev Inv-loop : tie.InvT-loop
+Inv-loop n m w s x c₀ c = (c ≤ n) × ((z : ℕ) → z < c → Has m x z × Meet w z s 0 → ⊥)
+
+abbrev μ-loop : tie.MeasureT-loop
+μ-loop n m w s x c₀ c = n - c
+
+loop-holds : tie.Need-loop-holds Inv-loop μ-loop
+loop-holds c = (search needs, below-none _)
+
+is-mid-requires : tie.Need-is-mid-requires Inv-loop μ-loop
+is-mid-requires c κs = search needs
+
+returns : tie.Need-returns Inv-loop μ-loop
+returns c = record { low = omega arith; here = rw (c .if1 .taken) at (c .before .is-mid .ensures); none = c .before .before .before .before .before .before .loop .inv .1 }
+
+add-c : tie.Need-add-c Inv-loop μ-loop
+add-c c = omega arith
+
+loop-less : tie.Need-loop-less Inv-loop μ-loop
+loop-less c = omega arith
+
+loop-again : tie.Need-loop-again Inv-loop μ-loop
+loop-again c = (omega arith, below-more _ _ (c .before .before .before .before .before .before .loop .inv .1) (rw (c .if1 .left) at (c .before .is-mid .ensures)))
+
+returns-2 : tie.Need-returns-2 Inv-loop μ-loop
+returns-2 c = let h = c .before .before .pre .2 in let a = h .1 in absurd (c .before .loop .inv .1 (h .0) (omega arith) (h .2, h .3))
+
+pub first-mid-spec : {M : Type 1} → statement M
+first-mid-spec =
+    tie.close
+    (tie.spec
+    Inv-loop
+    μ-loop
+    loop-holds
+    is-mid-requires
+    returns
+    add-c
+    loop-less
+    loop-again
+    returns-2)

@@ -1,0 +1,24 @@
+-- `chains::is_end` meets its contract. Assumes nothing.
+use borrow.Author.Needs.{needs}
+use Rattle.reach.specs.Rows.{Has}
+use Rattle.chains.proofs.Chains.{tells-and}
+use Rattle.chains.proofs.is_end.Statement.{statement}
+use Rattle.chains.proofs.is_end.Tie as tie
+
+has-requires : tie.Need-has-requires
+has-requires c κs = search needs
+
+has-requires-2 : tie.Need-has-requires-2
+has-requires-2 c κs = search needs
+
+returns : tie.Need-returns
+returns c =
+    let a = c .before .before .before .before .before .args in
+    tells-and (Has (a .w .now) (a .c) (a .y)) (Has (a .s .now) 0 (a .y)) (c .has2 .result)
+    (rw (c .before .if1 .taken) at (c .before .before .has .ensures)) (c .has2 .ensures)
+
+returns-2 : tie.Need-returns-2
+returns-2 c = λ p. (rw (c .if1 .left) at (c .before .has .ensures)) (p .0)
+
+pub is-end-spec : {M : Type 1} → statement M
+is-end-spec = tie.close (tie.spec has-requires has-requires-2 returns returns-2)

@@ -1,0 +1,50 @@
+-- `chains::sweep` meets its contract. Assumes nothing.
+use borrow.Author.Needs.{needs}
+use native.Mathlib.Omega.{arith}
+use mathlib.Core.Path.{_≡_}
+use Prim.Native.Nat.{_≤_, _<_, _-_}
+use Rattle.chains.specs.Levels.{Swept}
+use Rattle.chains.proofs.Levels.{swept-none, swept-more}
+use Rattle.chains.proofs.sweep.Statement.{statement}
+use Rattle.chains.proofs.sweep.Tie as tie
+
+abbrev Inv-loop : tie.InvT-loop
+Inv-loop n w s d₀ r count₀ x₀ d count x = (x ≤ n) × (count ≤ x) × Swept x w s d₀ d r count
+
+abbrev μ-loop : tie.MeasureT-loop
+μ-loop n w s d₀ r count₀ x₀ d count x = n - x
+
+loop-holds : tie.Need-loop-holds Inv-loop μ-loop
+loop-holds c = (search needs, search needs, swept-none _ _ _ _)
+
+visit-requires : tie.Need-visit-requires Inv-loop μ-loop
+visit-requires c κs = search needs
+
+add-count : tie.Need-add-count Inv-loop μ-loop
+add-count c = omega (arith, c .visit .ensures .few)
+
+add-x : tie.Need-add-x Inv-loop μ-loop
+add-x c = omega arith
+
+loop-less : tie.Need-loop-less Inv-loop μ-loop
+loop-less c = omega arith
+
+loop-again : tie.Need-loop-again Inv-loop μ-loop
+loop-again c = (omega arith, omega (arith, c .visit .ensures .few), swept-more _ _ _ _ _ _ _ _ _ (c .before .before .before .before .before .loop .inv .2) (c .visit .ensures))
+
+returns : tie.Need-returns Inv-loop μ-loop
+returns c = let e : c .before .loop .x ≡ c .before .before .args .n = omega arith in rw e at (c .before .loop .inv .2)
+
+pub sweep-spec : {M : Type 1} → statement M
+sweep-spec =
+    tie.close
+    (tie.spec
+    Inv-loop
+    μ-loop
+    loop-holds
+    visit-requires
+    add-count
+    add-x
+    loop-less
+    loop-again
+    returns)

@@ -1,0 +1,46 @@
+-- Chains of pairs: a hop by one relation and a pair by another, over and over, to a target; and the least of the shortest.
+-- Assumes nothing.
+use mathlib.Core.Path.{_≡_}
+use mathlib.Core.List.{List, [], _∷_}
+use Prim.Native.Nat.{ℕ, _*_, _≤_, _<_}
+use lib.ListN.{length, take, drop}
+use Rattle.order.specs.Rows.{Some}
+use Rattle.reach.specs.Rows.{Low, Link}
+use Rattle.chains.specs.Far.{Target}
+
+-- l lists, two numbers a pair, the pairs of a chain from x to a target: hops by M, pairs by W
+pub data Chain (M W : ℕ → ℕ → Type 0) (T : ℕ → Type 0) : ℕ → List ℕ → Type 0 where
+  end : {x : ℕ} → T x → Chain M W T x []
+  go : {x c y : ℕ} {l : List ℕ} → M x c → W c y → Chain M W T y l → Chain M W T x (c ∷ y ∷ l)
+
+-- l is at most k, compared number by number
+pub data Lex : List ℕ → List ℕ → Type 0 where
+  nil : Lex [] []
+  less : {a b : ℕ} {l k : List ℕ} → a < b → Lex (a ∷ l) (b ∷ k)
+  same : {a : ℕ} {l k : List ℕ} → Lex l k → Lex (a ∷ l) (a ∷ k)
+
+-- l is the least of the shortest chains of at least one pair
+pub record Best (M W : ℕ → ℕ → Type 0) (T : ℕ → Type 0) (x : ℕ) (l : List ℕ) : Type 0 where
+  pub chain : Chain M W T x l
+  pub some : Some l
+  pub short : (k : List ℕ) → Chain M W T x k → Some k → length l ≤ length k
+  pub least : (k : List ℕ) → Chain M W T x k → Some k → length k ≡ length l → Lex l k
+
+-- what a search for a chain stands on: relations among the first n nodes, and a buffer o that holds n pairs
+pub record Asked (n : ℕ) (m w o : List ℕ) (x : ℕ) : Type 0 where
+  pub few : n ≤ 128
+  pub low : x < n
+  pub hops : Low n m
+  pub pairs : Low n w
+  pub fits : 2 * n ≤ length o
+
+-- the answer k: 0 where there is no chain of a pair, and the buffer o stays; else the number of pairs of the best one,
+-- which stand at the front of p, the buffer after; the rest of the buffer is as it was
+pub record Shown (n : ℕ) (m w t o p : List ℕ) (x k : ℕ) : Type 0 where
+  pub never : k ≡ 0 → (l : List ℕ) → Chain (Link n m) (Link n w) (Target n t) x l → Some l → ⊥
+  pub still : k ≡ 0 → p ≡ o
+  pub best : (k ≡ 0 → ⊥) → Best (Link n m) (Link n w) (Target n t) x (take (2 * k) p)
+  pub count : length (take (2 * k) p) ≡ 2 * k
+  pub bound : k ≤ n
+  pub beyond : drop (2 * k) p ≡ drop (2 * k) o
+  pub long : length p ≡ length o
