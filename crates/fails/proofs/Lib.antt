@@ -1,0 +1,5 @@
+pub mod OnChain
+pub mod Relations
+pub mod Suspects
+pub mod Growing
+pub mod Tests

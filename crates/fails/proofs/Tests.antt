@@ -1,0 +1,48 @@
+-- What the answer of a test says of its statement.
+-- Assumes nothing.
+use mathlib.Core.Path.{_≡_, sym, ap, subst, _∙_}
+use mathlib.Core.Bool.{Bool, true, false, not}
+use Prim.Native.Nat.{ℕ}
+use lib.Dec.{T}
+use Rattle.listing.specs.Node.{Listing}
+use Rattle.order.specs.Walks.{Access}
+use Rattle.order.specs.Chains.{MayMeet, meets}
+use Rattle.reach.specs.Rows.{Tells}
+use Rattle.fails.specs.Failing.{Meeting}
+
+pub yes-holds : {r b : Bool} → r ≡ true → r ≡ b → T b
+yes-holds p e = subst T (sym p ∙ e) tt
+
+pub no-fails : {r b : Bool} → r ≡ false → r ≡ b → T b → ⊥
+no-fails p e t = subst T (sym e ∙ p) t
+
+-- the same where the code asks for the opposite
+pub not-holds : {r b : Bool} → not r ≡ false → r ≡ b → T b
+not-holds {r} {b} p e = of b (ap not (sym e) ∙ p)
+  where
+    of : (x : Bool) → not x ≡ false → T x
+    of true q = tt
+    of false q = subst T q tt
+
+pub not-fails : {r b : Bool} → not r ≡ true → r ≡ b → T b → ⊥
+not-fails {r} {b} p e t = of b (ap not (sym e) ∙ p) t
+  where
+    of : (x : Bool) → not x ≡ true → T x → ⊥
+    of true q u = subst T (sym q) tt
+    of false q u = u
+
+-- A TEST TELLS ITS STATEMENT
+pub tells : {r : Bool} (b : Bool) → r ≡ b → Tells r (T b)
+tells {r} b e = subst (λ (x : Bool). Tells x (T b)) (sym e) (of b)
+  where
+    of : (x : Bool) → Tells x (T x)
+    of true = tt
+    of false = λ t. t
+
+-- of two accesses the test of their locations tells whether they meet
+pub meeting-told : (L : Listing) (a b : ℕ) {r : Bool} → Access L a → Access L b → r ≡ meets L a b → Tells r (Meeting L a b)
+meeting-told L a b {r} ha hb e = of r (tells (meets L a b) e)
+  where
+    of : (x : Bool) → Tells x (MayMeet L a b) → Tells x (Meeting L a b)
+    of true m = (ha, hb, m)
+    of false n = λ g. n (g .2)

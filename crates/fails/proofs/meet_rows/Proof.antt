@@ -1,0 +1,60 @@
+-- `fails::meet_rows` meets its contract. Assumes nothing.
+use borrow.Author.Needs.{needs}
+use native.Mathlib.Omega.{arith}
+use mathlib.Core.Path.{_≡_}
+use Prim.Native.Nat.{_≤_, _<_, _-_}
+use Rattle.listing.specs.Bytes.{countN, nodesOf}
+use Rattle.fails.specs.Failing.{Meeting}
+use Rattle.fails.specs.Growing.{RowsDone}
+use Rattle.fails.proofs.Growing.{rows-none, rows-more, rows-hold}
+use Rattle.fails.proofs.meet_rows.Statement.{statement}
+use Rattle.fails.proofs.meet_rows.Tie as tie
+
+abbrev Inv-loop : tie.InvT-loop
+Inv-loop bytes m₀ n a₀ m a = (n ≡ countN bytes) × (a ≤ n) × (n ≤ 128) × RowsDone (Meeting (nodesOf bytes)) m a (countN bytes)
+
+abbrev μ-loop : tie.MeasureT-loop
+μ-loop bytes m₀ n a₀ m a = n - a
+
+clear-requires : tie.Need-clear-requires Inv-loop μ-loop
+clear-requires c κs = tt
+
+node-count-requires : tie.Need-node-count-requires Inv-loop μ-loop
+node-count-requires c κs = search needs
+
+loop-holds : tie.Need-loop-holds Inv-loop μ-loop
+loop-holds c = (c .node-count .ensures .0, omega arith, c .node-count .ensures .1, rows-none _ _ _ (c .before .clear .ensures))
+
+meet-row-requires : tie.Need-meet-row-requires Inv-loop μ-loop
+meet-row-requires c κs = search needs
+
+add-a : tie.Need-add-a Inv-loop μ-loop
+add-a c = omega arith
+
+loop-less : tie.Need-loop-less Inv-loop μ-loop
+loop-less c = omega arith
+
+loop-again : tie.Need-loop-again Inv-loop μ-loop
+loop-again c =
+    let inv = c .before .before .before .loop .inv in
+    (inv .0, omega arith, inv .2, rows-more _ _ _ _ _ (omega arith) (inv .3) (c .meet-row .ensures))
+
+returns : tie.Need-returns Inv-loop μ-loop
+returns c =
+    let e : c .before .loop .a ≡ countN (c .before .before .before .before .before .before .args .bytes .now) = omega arith in
+    rows-hold _ _ _ (rw e at (c .before .loop .inv .3))
+
+pub meet-rows-spec : {M : Type 1} → statement M
+meet-rows-spec =
+    tie.close
+    (tie.spec
+    Inv-loop
+    μ-loop
+    clear-requires
+    node-count-requires
+    loop-holds
+    meet-row-requires
+    add-a
+    loop-less
+    loop-again
+    returns)

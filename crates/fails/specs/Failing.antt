@@ -1,0 +1,28 @@
+-- What the rows of the failing-pair test keep, relation by relation.
+-- Assumes nothing.
+use mathlib.Core.List.{List}
+use Prim.Native.Nat.{ℕ}
+use Rattle.listing.specs.Node.{Listing}
+use Rattle.order.specs.Walks.{Access, Walk}
+use Rattle.order.specs.Chains.{MayMeet, Ends, IsPair, Chain}
+use Rattle.order.specs.Need.{RmwInside, Unbarred}
+
+-- two accesses that may meet
+abbrev pub Meeting : Listing → ℕ → ℕ → Type 0
+Meeting L a b = Access L a × Access L b × MayMeet L a b
+
+-- "some walk between them has no barrier inside"
+abbrev pub Clear : ℕ → Listing → ℕ → ℕ → Type 0
+Clear q L a b = (inside : List ℕ) × Walk L a inside b × Unbarred q L a b inside
+
+-- two accesses, "some walk between them has an RMW inside"
+abbrev pub Exchanged : Listing → ℕ → ℕ → Type 0
+Exchanged L a b = Access L a × Access L b × RmwInside L a b
+
+-- "it lies on a chain"
+abbrev pub OnChain : Listing → ℕ → ℕ → Type 0
+OnChain L a b = (rest : List Ends) × Chain L (a, b) rest
+
+-- all of a failing pair but its need and its ends: on a chain, and with a walk that no barrier bars
+abbrev pub Suspect : ℕ → Listing → ℕ → ℕ → Type 0
+Suspect q L a b = OnChain L a b × Clear q L a b
