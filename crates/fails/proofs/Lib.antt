@@ -3,3 +3,5 @@ pub mod Relations
 pub mod Suspects
 pub mod Growing
 pub mod Tests
+pub mod Returning
+pub mod Needing

@@ -31,6 +31,15 @@ not-fails {r} {b} p e t = of b (ap not (sym e) ∙ p) t
     of true q u = subst T (sym q) tt
     of false q u = u
 
+-- what an answer says, where the code asks for the opposite
+pub told-yes : (A : Type 0) (r : Bool) → not r ≡ false → Tells r A → A
+told-yes A true p h = h
+told-yes A false p h = absurd (subst T p tt)
+
+pub told-no : (A : Type 0) (r : Bool) → not r ≡ true → Tells r A → A → ⊥
+told-no A true p h = λ a. subst T (sym p) tt
+told-no A false p h = h
+
 -- A TEST TELLS ITS STATEMENT
 pub tells : {r : Bool} (b : Bool) → r ≡ b → Tells r (T b)
 tells {r} b e = subst (λ (x : Bool). Tells x (T b)) (sym e) (of b)

@@ -2,3 +2,5 @@ pub mod Back
 pub mod Failing
 pub mod Picked
 pub mod Growing
+pub mod Returning
+pub mod First

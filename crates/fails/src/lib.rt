@@ -5,10 +5,15 @@ ghost use lib.Dec.{T};
 ghost use lib.ListN.{length};
 ghost use Rattle.listing.specs.Bytes.{countN, nodesOf, Whole};
 ghost use Rattle.order.specs.Walks.{kindAt};
-ghost use Rattle.reach.specs.Rows.{Tells, Has, Holds, Members};
+ghost use Rattle.order.specs.Verdict.{Fails};
+ghost use Rattle.reach.specs.Rows.{Tells, Low, Holds, Members};
+ghost use Rattle.reach.specs.Touched.{Poured};
 ghost use Rattle.fails.specs.Picked.{picked};
 ghost use Rattle.fails.specs.Growing.{RowGrown};
 ghost use Rattle.fails.specs.Failing.{Meeting};
+ghost use Rattle.fails.specs.Back.{RowReturns};
+ghost use Rattle.fails.specs.Returning.{Copied, HomeEnds, Answered};
+ghost use Rattle.fails.specs.First.{Prepared, SecondFailing, FirstFailing};
 
 // Which nodes to gather.
 pub enum Pick {
@@ -84,4 +89,140 @@ fn meet_rows(bytes: &[u8], m: &mut [u64; 256])
     for a in 0..n {
         meet_row(bytes, m, a);
     }
+}
+
+// Row a of m, into the one row of s.
+fn copy_row(m: &[u64; 256], a: usize, s: &mut [u64; 2])
+    requires { ⌜ a < 128 ⌝ }
+    ensures { λ _. ⌜ Copied (now (m .entry)) a (now (s .exit)) ⌝ }
+{
+    reach::clear(s);
+    reach::pour(m, a, s, 0);
+}
+
+// The ends of the pairs from a that meet a or come round to it, into s.
+fn home_ends(p: &[u64; 256], m: &[u64; 256], w: &[u64; 256], a: usize, s: &mut [u64; 2])
+    requires { ⌜ a < 128 ⌝ }
+    ensures { λ _. ⌜ HomeEnds (now (p .entry)) (now (m .entry)) (now (w .entry)) a (now (s .exit)) ⌝ }
+{
+    copy_row(m, a, s);
+    reach::pour(w, a, s, 0);
+    reach::sift(p, a, s, 0);
+}
+
+// Keeps of the ends s those for which h has another one. Two of h's ends answer every end, and a single one all but itself.
+fn keep_answered(n: usize, h: &mut [u64; 2], s: &mut [u64; 2])
+    requires { ⌜ n ≤ 128 ⌝ }
+    ensures { λ _. ⌜ Answered (now (h .entry)) (now (s .entry)) (now (s .exit)) n ⌝ }
+{
+    let d = reach::least(h, 0, n);
+    if d == n {
+        reach::clear(s);
+        return;
+    }
+    reach::take_out(h, 0, d);
+    let e = reach::least(h, 0, n);
+    if e == n {
+        reach::take_out(s, 0, d);
+    }
+}
+
+// Puts the set s into row a.
+fn pour_set(s: &[u64; 2], c: &mut [u64; 256], a: usize)
+    requires { ⌜ a < 128 ⌝ }
+    ensures { λ _. ⌜ Poured (now (s .entry)) (now (c .entry)) (now (c .exit)) a 0 ⌝ }
+{
+    reach::pour(s, 0, c, a);
+}
+
+// Which ends return to a: those that come round, and those that meet a while another pair from a comes home.
+fn returns_row(
+    n: usize,
+    p: &[u64; 256],
+    m: &[u64; 256],
+    w: &[u64; 256],
+    c: &mut [u64; 256],
+    a: usize,
+)
+    requires { ⌜ (n ≤ 128) × (a < n) × Low n (now m) × Low n (now w) ⌝ }
+    ensures { λ _. ⌜ RowGrown (RowReturns n (now (p .entry)) (now (m .entry)) (now (w .entry))) (now (c .entry)) (now (c .exit)) a n ⌝ }
+{
+    let mut home = [0u64; 2];
+    let mut ends = [0u64; 2];
+    home_ends(p, m, w, a, &mut home);
+    copy_row(m, a, &mut ends);
+    keep_answered(n, &mut home, &mut ends);
+    reach::pour(w, a, c, a);
+    pour_set(&ends, c, a);
+}
+
+// Who returns.
+fn returns_rows(n: usize, p: &[u64; 256], m: &[u64; 256], w: &[u64; 256], c: &mut [u64; 256])
+    requires { ⌜ (n ≤ 128) × Low n (now m) × Low n (now w) ⌝ }
+    ensures { λ _. ⌜ Holds (now (c .exit)) n (RowReturns n (now (p .entry)) (now (m .entry)) (now (w .entry))) ⌝ }
+{
+    reach::clear(c);
+    for a in 0..n {
+        returns_row(n, p, m, w, c, a);
+    }
+}
+
+// Whether the pair (a, b) fails.
+pub fn fails_at(
+    question: u8,
+    bytes: &[u8],
+    c: &[u64; 256],
+    i: &[u64; 256],
+    a: usize,
+    b: usize,
+) -> bool
+    requires { ⌜ Prepared question (now bytes) (now c) (now i) × (a < countN (now bytes)) × (b < countN (now bytes)) ⌝ }
+    ensures { λ r. ⌜ Tells r (Fails question (nodesOf (now (bytes .entry))) a b) ⌝ }
+{
+    if !reach::has(c, a, b) {
+        return false;
+    }
+    let x = listing::location_at(bytes, a);
+    let y = listing::location_at(bytes, b);
+    if order::surely(x, y) {
+        return false;
+    }
+    let first = listing::kind_at(bytes, a);
+    let second = listing::kind_at(bytes, b);
+    let entry = order::need(question, first, second);
+    if entry == 0 {
+        return false;
+    }
+    if entry == 1 {
+        return true;
+    }
+    reach::has(i, a, b)
+}
+
+// The least second node of a failing pair from a, or the number of nodes where none fails.
+pub fn second_failing(question: u8, bytes: &[u8], c: &[u64; 256], i: &[u64; 256], a: usize) -> usize
+    requires { ⌜ Prepared question (now bytes) (now c) (now i) × (a < countN (now bytes)) ⌝ }
+    ensures { λ r. ⌜ SecondFailing question (nodesOf (now (bytes .entry))) (countN (now (bytes .entry))) a r ⌝ }
+{
+    let n = listing::node_count(bytes);
+    for b in 0..n {
+        if fails_at(question, bytes, c, i, a, b) {
+            return b;
+        }
+    }
+    n
+}
+
+// The least first node of a failing pair, or the number of nodes where none fails.
+pub fn first_failing(question: u8, bytes: &[u8], c: &[u64; 256], i: &[u64; 256]) -> usize
+    requires { ⌜ Prepared question (now bytes) (now c) (now i) ⌝ }
+    ensures { λ r. ⌜ FirstFailing question (nodesOf (now (bytes .entry))) (countN (now (bytes .entry))) r ⌝ }
+{
+    let n = listing::node_count(bytes);
+    for a in 0..n {
+        if second_failing(question, bytes, c, i, a) < n {
+            return a;
+        }
+    }
+    n
 }

@@ -1,0 +1,21 @@
+-- The rows of who returns, one first node at a time: what each part of the work leaves.
+-- Assumes nothing.
+use mathlib.Core.Path.{_≡_}
+use mathlib.Core.Logic.{_≢_, _⊎_}
+use mathlib.Core.List.{List}
+use Prim.Native.Nat.{ℕ, _<_}
+use Rattle.reach.specs.Rows.{at, Has}
+
+-- the one row s is row a of m
+pub record Copied (m : List ℕ) (a : ℕ) (s : List ℕ) : Type 0 where
+  pub same : (y : ℕ) → y < 128 → at s 0 y ≡ at m a y
+
+-- s has the ends of the pairs from a that meet a or come round to it
+pub record HomeEnds (p m w : List ℕ) (a : ℕ) (s : List ℕ) : Type 0 where
+  pub gives : (d : ℕ) → d < 128 → Has s 0 d → Has p a d × (Has m a d ⊎ Has w a d)
+  pub keeps : (d : ℕ) → d < 128 → Has p a d → Has m a d ⊎ Has w a d → Has s 0 d
+
+-- of the ends s those stay for which h has another one below n: v is s after
+pub record Answered (h s v : List ℕ) (n : ℕ) : Type 0 where
+  pub gives : (b : ℕ) → b < 128 → Has v 0 b → Has s 0 b × ((d : ℕ) × (d < n) × (b ≢ d) × Has h 0 d)
+  pub keeps : (b d : ℕ) → b < 128 → d < n → b ≢ d → Has h 0 d → Has s 0 b → Has v 0 b
