@@ -1,7 +1,6 @@
 pub mod OnChain
 pub mod Relations
-pub mod Suspects
+pub mod Chained
 pub mod Growing
 pub mod Tests
 pub mod Returning
-pub mod Needing

@@ -3,7 +3,7 @@
 use mathlib.Core.Path.{_≡_, refl, sym, subst}
 use mathlib.Core.Logic.{_≢_, _⊎_, inl, inr}
 use mathlib.Core.List.{List, [], _∷_, _++_}
-use mathlib.Core.Bool.{_||_}
+use mathlib.Core.Bool.{not, _||_}
 use Prim.Native.Nat.{ℕ, _≤_, _<_}
 use native.Mathlib.Omega.{arith}
 use lib.Dec.{T}
@@ -16,12 +16,17 @@ use Rattle.order.specs.Need.{bars, Barrier, Unbarred, RmwInside}
 use Rattle.order.proofs.Bools.{one}
 use Rattle.order.proofs.Lists.{all-in, in-all, in-right, Cut, cut, row-join, row-before, row-after}
 use Rattle.order.proofs.Laws.{access-in, walk-in, bars-ends}
-use Rattle.reach.specs.Rows.{Has, Holds, Members, Link}
+use Rattle.reach.specs.Rows.{Has, Holds, Members, Low, Link}
 use Rattle.reach.specs.Links.{Walked}
 use Rattle.reach.specs.Whole.{Through, Then, Turned, To, Among, Away}
 use Rattle.fails.specs.Back.{Turns, Leads, Around}
 use Rattle.fails.specs.Failing.{Meeting, Clear, Exchanged}
+use Rattle.fails.proofs.Tests.{not-true, true-not}
 use Rattle.fails.proofs.OnChain.{turns-lead, lead-turns}
+
+-- rows that keep a relation among k nodes have no bit outside them
+pub low-at : {w : List ℕ} {k : ℕ} {A : ℕ → ℕ → Type 0} (n : ℕ) → n ≡ k → Holds w k A → Low n w
+low-at n e h a b l g = let x = h .sound a b l g in (omega (arith, x .0), omega (arith, x .1))
 
 -- an RMW is an access
 rmw-access : (k : ℕ) → T (isRmw k) → T (isAccess k)
@@ -113,7 +118,7 @@ module _ (L : Listing) (n : ℕ) (size : n ≡ length L) (small : n ≤ 128) whe
       }
 
   -- WALKS THAT NO BARRIER BARS
-  pub clear-hold : (q : ℕ) (free f : List ℕ) → Members free n (λ c. T (bars q 0 0 (kindAt L c)) → ⊥) → Holds f n (Walked L free) → Holds f n (Clear q L)
+  pub clear-hold : (q : ℕ) (free f : List ℕ) → Members free n (λ c. T (not (bars q 0 0 (kindAt L c)))) → Holds f n (Walked L free) → Holds f n (Clear q L)
   clear-hold q free f hs hf = record {
     sound = λ a b l h.
         let s = hf .sound a b l h in
@@ -125,7 +130,7 @@ module _ (L : Listing) (n : ℕ) (size : n ≡ length L) (small : n ≤ 128) whe
             w .1,
             in-all (λ c. Barrier q L a b c → ⊥) (w .0) (λ c i t.
                 let lc : c < 128 = omega (arith, walk-in L a (w .0) b (w .1) c (inr i)) in
-                hs .sound c lc (all-in (λ c. Has free 0 c) (w .0) (w .2) c i) .1 (subst T (bars-ends q (kindAt L a) (kindAt L b) 0 0 (kindAt L c)) t)),
+                not-true (bars q 0 0 (kindAt L c)) (hs .sound c lc (all-in (λ c. Has free 0 c) (w .0) (w .2) c i) .1) (subst T (bars-ends q (kindAt L a) (kindAt L b) 0 0 (kindAt L c)) t)),
           ),
         );
     whole = λ a b la lb g.
@@ -133,8 +138,8 @@ module _ (L : Listing) (n : ℕ) (size : n ≡ length L) (small : n ≤ 128) whe
           g .0,
           g .1,
           in-all (λ c. Has free 0 c) (g .0) (λ c i.
-              hs .whole c (omega (arith, walk-in L a (g .0) b (g .1) c (inr i))) (λ t.
-              all-in (λ c. Barrier q L a b c → ⊥) (g .0) (g .2) c i (subst T (bars-ends q 0 0 (kindAt L a) (kindAt L b) (kindAt L c)) t))),
+              hs .whole c (omega (arith, walk-in L a (g .0) b (g .1) c (inr i))) (true-not (bars q 0 0 (kindAt L c)) (λ t.
+              all-in (λ c. Barrier q L a b c → ⊥) (g .0) (g .2) c i (subst T (bars-ends q 0 0 (kindAt L a) (kindAt L b) (kindAt L c)) t)))),
         );
   }
 

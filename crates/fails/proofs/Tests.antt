@@ -31,6 +31,14 @@ not-fails {r} {b} p e t = of b (ap not (sym e) ∙ p) t
     of true q u = subst T (sym q) tt
     of false q u = u
 
+pub not-true : (b : Bool) → T (not b) → T b → ⊥
+not-true true u t = u
+not-true false u t = t
+
+pub true-not : (b : Bool) → (T b → ⊥) → T (not b)
+true-not true n = n tt
+true-not false n = tt
+
 -- what an answer says, where the code asks for the opposite
 pub told-yes : (A : Type 0) (r : Bool) → not r ≡ false → Tells r A → A
 told-yes A true p h = h

@@ -5,6 +5,7 @@ use mathlib.Core.List.{List}
 use Prim.Native.Nat.{ℕ, _<_}
 use Rattle.listing.specs.Node.{Listing}
 use Rattle.order.specs.Rows.{All, Row}
+use Rattle.order.specs.Walks.{Access}
 use Rattle.order.specs.Chains.{MayMeet, Ends, IsPair, Joined}
 use Rattle.reach.specs.Rows.{Has}
 
@@ -19,6 +20,10 @@ Leads L a c = (d : ℕ) × (vs : List Ends) × IsPair L (c, d) × All (IsPair L)
 -- the end b meets another node than a that leads back to a
 abbrev pub Around : Listing → ℕ → ℕ → Type 0
 Around L a b = (c : ℕ) × (a ≢ c) × Leads L a c × MayMeet L c b
+
+-- the same of two accesses
+abbrev pub ComesRound : Listing → ℕ → ℕ → Type 0
+ComesRound L a b = Access L a × Access L b × Around L a b
 
 -- the end d meets a, or leads back to it through another node
 abbrev pub Home : Listing → ℕ → ℕ → Type 0

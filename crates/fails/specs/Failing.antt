@@ -3,9 +3,11 @@
 use mathlib.Core.List.{List}
 use Prim.Native.Nat.{ℕ}
 use Rattle.listing.specs.Node.{Listing}
-use Rattle.order.specs.Walks.{Access, Walk}
+use Rattle.listing.specs.Bytes.{countN, nodesOf}
+use Rattle.order.specs.Walks.{Access, Walk, Pair}
 use Rattle.order.specs.Chains.{MayMeet, Ends, IsPair, Chain}
 use Rattle.order.specs.Need.{RmwInside, Unbarred}
+use Rattle.reach.specs.Rows.{Holds}
 
 -- two accesses that may meet
 abbrev pub Meeting : Listing → ℕ → ℕ → Type 0
@@ -26,3 +28,9 @@ OnChain L a b = (rest : List Ends) × Chain L (a, b) rest
 -- all of a failing pair but its need and its ends: on a chain, and with a walk that no barrier bars
 abbrev pub Suspect : ℕ → Listing → ℕ → ℕ → Type 0
 Suspect q L a b = OnChain L a b × Clear q L a b
+
+-- the rows that the failing-pair test and the chain to show start from
+pub record Ready (q : ℕ) (bytes p m c : List ℕ) : Type 0 where
+  pub pairs : Holds p (countN bytes) (Pair (nodesOf bytes))
+  pub meetings : Holds m (countN bytes) (Meeting (nodesOf bytes))
+  pub suspects : Holds c (countN bytes) (Suspect q (nodesOf bytes))

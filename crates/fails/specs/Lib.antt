@@ -3,4 +3,3 @@ pub mod Failing
 pub mod Picked
 pub mod Growing
 pub mod Returning
-pub mod First

@@ -4,16 +4,15 @@ ghost use Prim.Native.Nat.{_+_, _*_, _<_, _≤_};
 ghost use lib.Dec.{T};
 ghost use lib.ListN.{length};
 ghost use Rattle.listing.specs.Bytes.{countN, nodesOf, Whole};
-ghost use Rattle.order.specs.Walks.{kindAt};
-ghost use Rattle.order.specs.Verdict.{Fails};
+ghost use Rattle.order.specs.Walks.{kindAt, Pair};
 ghost use Rattle.reach.specs.Rows.{Tells, Low, Holds, Members};
 ghost use Rattle.reach.specs.Touched.{Poured};
+ghost use Rattle.reach.specs.Whole.{Common};
 ghost use Rattle.fails.specs.Picked.{picked};
 ghost use Rattle.fails.specs.Growing.{RowGrown};
-ghost use Rattle.fails.specs.Failing.{Meeting};
-ghost use Rattle.fails.specs.Back.{RowReturns};
+ghost use Rattle.fails.specs.Failing.{Meeting, Clear, Exchanged, Ready};
+ghost use Rattle.fails.specs.Back.{ComesRound, RowReturns};
 ghost use Rattle.fails.specs.Returning.{Copied, HomeEnds, Answered};
-ghost use Rattle.fails.specs.First.{Prepared, SecondFailing, FirstFailing};
 
 // Which nodes to gather.
 pub enum Pick {
@@ -48,6 +47,42 @@ fn gather(question: u8, bytes: &[u8], pick: Pick, s: &mut [u64; 2])
             reach::put(s, 0, i);
         }
     }
+}
+
+// The pairs: who walks to whom, among accesses.
+fn pair_rows(bytes: &[u8], p: &mut [u64; 256])
+    requires { ⌜ Whole (now bytes) ⌝ }
+    ensures { λ _. ⌜ Holds (now (p .exit)) (countN (now (bytes .entry))) (Pair (nodesOf (now (bytes .entry)))) ⌝ }
+{
+    let mut every = [0u64; 2];
+    let mut accesses = [0u64; 2];
+    gather(0, bytes, Pick::Every, &mut every);
+    gather(0, bytes, Pick::Access, &mut accesses);
+    reach::walks(bytes, &every, p);
+    reach::restrict(listing::node_count(bytes), &accesses, p);
+}
+
+// Who walks to whom with no barrier inside.
+fn clear_rows(question: u8, bytes: &[u8], f: &mut [u64; 256])
+    requires { ⌜ Whole (now bytes) ⌝ }
+    ensures { λ _. ⌜ Holds (now (f .exit)) (countN (now (bytes .entry))) (Clear question (nodesOf (now (bytes .entry)))) ⌝ }
+{
+    let mut free = [0u64; 2];
+    gather(question, bytes, Pick::Passable, &mut free);
+    reach::walks(bytes, &free, f);
+}
+
+// Between which accesses some walk has an RMW inside.
+pub fn exchanged_rows(bytes: &[u8], p: &[u64; 256], i: &mut [u64; 256])
+    requires { ⌜ Whole (now bytes) × Holds (now p) (countN (now bytes)) (Pair (nodesOf (now bytes))) ⌝ }
+    ensures { λ _. ⌜ Holds (now (i .exit)) (countN (now (bytes .entry))) (Exchanged (nodesOf (now (bytes .entry)))) ⌝ }
+{
+    let n = listing::node_count(bytes);
+    let mut rmws = [0u64; 2];
+    let mut to = [0u64; 256];
+    gather(0, bytes, Pick::Exchange, &mut rmws);
+    reach::columns(n, &rmws, p, &mut to);
+    reach::compose(n, &to, p, i);
 }
 
 // Whether a and b are accesses that may meet.
@@ -89,6 +124,23 @@ fn meet_rows(bytes: &[u8], m: &mut [u64; 256])
     for a in 0..n {
         meet_row(bytes, m, a);
     }
+}
+
+// Which ends come round to which first nodes: who meets a node, other than a, that leads back to a.
+fn around_rows(bytes: &[u8], p: &[u64; 256], m: &[u64; 256], w: &mut [u64; 256])
+    requires { ⌜ Whole (now bytes) × Holds (now p) (countN (now bytes)) (Pair (nodesOf (now bytes))) × Holds (now m) (countN (now bytes)) (Meeting (nodesOf (now bytes))) ⌝ }
+    ensures { λ _. ⌜ Holds (now (w .exit)) (countN (now (bytes .entry))) (ComesRound (nodesOf (now (bytes .entry)))) ⌝ }
+{
+    let n = listing::node_count(bytes);
+    let mut every = [0u64; 2];
+    let mut back = [0u64; 256];
+    let mut leads = [0u64; 256];
+    gather(0, bytes, Pick::Every, &mut every);
+    reach::turn(n, p, &mut back);
+    reach::compose(n, m, &back, &mut leads);
+    reach::close(n, &every, &mut leads);
+    reach::no_loops(n, &mut leads);
+    reach::compose(n, &leads, m, w);
 }
 
 // Row a of m, into the one row of s.
@@ -167,62 +219,32 @@ fn returns_rows(n: usize, p: &[u64; 256], m: &[u64; 256], w: &[u64; 256], c: &mu
     }
 }
 
-// Whether the pair (a, b) fails.
-pub fn fails_at(
+// Keeps of the rows c what f has too.
+fn narrow(f: &[u64; 256], c: &mut [u64; 256])
+    ensures { λ _. ⌜ Common (now (f .entry)) (now (c .entry)) (now (c .exit)) ⌝ }
+{
+    reach::keep_common(f, c);
+}
+
+// The pairs, who meets whom, and the suspects: the pairs on a chain with a walk that no barrier bars.
+pub fn suspects(
     question: u8,
     bytes: &[u8],
-    c: &[u64; 256],
-    i: &[u64; 256],
-    a: usize,
-    b: usize,
-) -> bool
-    requires { ⌜ Prepared question (now bytes) (now c) (now i) × (a < countN (now bytes)) × (b < countN (now bytes)) ⌝ }
-    ensures { λ r. ⌜ Tells r (Fails question (nodesOf (now (bytes .entry))) a b) ⌝ }
-{
-    if !reach::has(c, a, b) {
-        return false;
-    }
-    let x = listing::location_at(bytes, a);
-    let y = listing::location_at(bytes, b);
-    if order::surely(x, y) {
-        return false;
-    }
-    let first = listing::kind_at(bytes, a);
-    let second = listing::kind_at(bytes, b);
-    let entry = order::need(question, first, second);
-    if entry == 0 {
-        return false;
-    }
-    if entry == 1 {
-        return true;
-    }
-    reach::has(i, a, b)
-}
-
-// The least second node of a failing pair from a, or the number of nodes where none fails.
-pub fn second_failing(question: u8, bytes: &[u8], c: &[u64; 256], i: &[u64; 256], a: usize) -> usize
-    requires { ⌜ Prepared question (now bytes) (now c) (now i) × (a < countN (now bytes)) ⌝ }
-    ensures { λ r. ⌜ SecondFailing question (nodesOf (now (bytes .entry))) (countN (now (bytes .entry))) a r ⌝ }
+    p: &mut [u64; 256],
+    m: &mut [u64; 256],
+    c: &mut [u64; 256],
+)
+    requires { ⌜ Whole (now bytes) ⌝ }
+    ensures { λ _. ⌜ Ready question (now (bytes .entry)) (now (p .exit)) (now (m .exit)) (now (c .exit)) ⌝ }
 {
     let n = listing::node_count(bytes);
-    for b in 0..n {
-        if fails_at(question, bytes, c, i, a, b) {
-            return b;
-        }
-    }
-    n
-}
-
-// The least first node of a failing pair, or the number of nodes where none fails.
-pub fn first_failing(question: u8, bytes: &[u8], c: &[u64; 256], i: &[u64; 256]) -> usize
-    requires { ⌜ Prepared question (now bytes) (now c) (now i) ⌝ }
-    ensures { λ r. ⌜ FirstFailing question (nodesOf (now (bytes .entry))) (countN (now (bytes .entry))) r ⌝ }
-{
-    let n = listing::node_count(bytes);
-    for a in 0..n {
-        if second_failing(question, bytes, c, i, a) < n {
-            return a;
-        }
-    }
-    n
+    let mut w = [0u64; 256];
+    let mut f = [0u64; 256];
+    pair_rows(bytes, p);
+    meet_rows(bytes, m);
+    around_rows(bytes, p, m, &mut w);
+    returns_rows(n, p, m, &w, c);
+    narrow(p, c);
+    clear_rows(question, bytes, &mut f);
+    narrow(&f, c);
 }

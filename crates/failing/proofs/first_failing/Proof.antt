@@ -1,4 +1,4 @@
--- `fails::first_failing` meets its contract. Assumes nothing.
+-- `failing::first_failing` meets its contract. Assumes nothing.
 use borrow.Author.Needs.{needs}
 use native.Mathlib.Omega.{arith}
 use borrow.Author.Count.{below-none, below-more}
@@ -7,9 +7,9 @@ use Prim.Native.Nat.{ℕ, _≤_, _<_, _-_}
 use Rattle.listing.specs.Bytes.{countN, nodesOf}
 use Rattle.listing.proofs.Nodes.{nodes-length}
 use Rattle.order.specs.Verdict.{Fails}
-use Rattle.fails.proofs.Needing.{failing-in}
-use Rattle.fails.proofs.first_failing.Statement.{statement}
-use Rattle.fails.proofs.first_failing.Tie as tie
+use Rattle.failing.proofs.Needing.{failing-in}
+use Rattle.failing.proofs.first_failing.Statement.{statement}
+use Rattle.failing.proofs.first_failing.Tie as tie
 
 abbrev Inv-loop : tie.InvT-loop
 Inv-loop question bytes c i n a₀ a = (n ≡ countN bytes) × (a ≤ n) × ((x : ℕ) → x < a → ((b : ℕ) × Fails question (nodesOf bytes) x b) → ⊥)

@@ -1,4 +1,4 @@
--- `fails::second_failing` meets its contract. Assumes nothing.
+-- `failing::second_failing` meets its contract. Assumes nothing.
 use borrow.Author.Needs.{needs}
 use native.Mathlib.Omega.{arith}
 use borrow.Author.Count.{below-none, below-more}
@@ -7,9 +7,9 @@ use Prim.Native.Nat.{ℕ, _≤_, _<_, _-_}
 use Rattle.listing.specs.Bytes.{countN, nodesOf}
 use Rattle.listing.proofs.Nodes.{nodes-length}
 use Rattle.order.specs.Verdict.{Fails}
-use Rattle.fails.proofs.Needing.{failing-in}
-use Rattle.fails.proofs.second_failing.Statement.{statement}
-use Rattle.fails.proofs.second_failing.Tie as tie
+use Rattle.failing.proofs.Needing.{failing-in}
+use Rattle.failing.proofs.second_failing.Statement.{statement}
+use Rattle.failing.proofs.second_failing.Tie as tie
 
 abbrev Inv-loop : tie.InvT-loop
 Inv-loop question bytes c i a n b₀ b = (n ≡ countN bytes) × (b ≤ n) × ((z : ℕ) → z < b → Fails question (nodesOf bytes) a z → ⊥)

@@ -18,10 +18,10 @@ use Rattle.order.proofs.Bools.{one→}
 use Rattle.order.proofs.Laws.{access-in}
 use Rattle.order.proofs.Entries.{number-leave, number-need, number-unless, number-below, entry-of}
 use Rattle.reach.specs.Rows.{Has, Tells, Holds}
 use Rattle.fails.specs.Failing.{Suspect, Exchanged}
-use Rattle.fails.specs.First.{Prepared}
-use Rattle.fails.proofs.Suspects.{suspect-fails}
+use Rattle.failing.specs.First.{Prepared}
+use Rattle.fails.proofs.Chained.{suspect-fails}
 use Rattle.fails.proofs.Tests.{no-fails, told-yes}
 
 -- an access's kind is one of the table's
 pub kind-below : (k : ℕ) → T (isAccess k) → k < 5

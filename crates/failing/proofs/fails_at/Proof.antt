@@ -1,14 +1,14 @@
--- `fails::fails_at` meets its contract. Assumes nothing.
+-- `failing::fails_at` meets its contract. Assumes nothing.
 use borrow.Author.Needs.{needs}
 use native.Mathlib.Omega.{arith}
 use mathlib.Core.Path.{sym, _∙_}
 use Prim.Native.Nat.{_<_}
 use Rattle.listing.specs.Bytes.{nodesOf}
-use Rattle.fails.proofs.Suspects.{fails-suspect}
+use Rattle.fails.proofs.Chained.{fails-suspect}
 use Rattle.fails.proofs.Tests.{yes-holds, told-no}
-use Rattle.fails.proofs.Needing.{kind-below, suspected, suspect-pair, apart-read, number-read, left-out, needed, unless-inside}
-use Rattle.fails.proofs.fails_at.Statement.{statement}
-use Rattle.fails.proofs.fails_at.Tie as tie
+use Rattle.failing.proofs.Needing.{kind-below, suspected, suspect-pair, apart-read, number-read, left-out, needed, unless-inside}
+use Rattle.failing.proofs.fails_at.Statement.{statement}
+use Rattle.failing.proofs.fails_at.Tie as tie
 
 has-requires : tie.Need-has-requires
 has-requires c κs = search needs
