@@ -144,7 +144,7 @@ fn around_rows(bytes: &[u8], p: &[u64; 256], m: &[u64; 256], w: &mut [u64; 256])
 }
 
 // Row a of m, into the one row of s.
-fn copy_row(m: &[u64; 256], a: usize, s: &mut [u64; 2])
+pub fn copy_row(m: &[u64; 256], a: usize, s: &mut [u64; 2])
     requires { ⌜ a < 128 ⌝ }
     ensures { λ _. ⌜ Copied (now (m .entry)) a (now (s .exit)) ⌝ }
 {

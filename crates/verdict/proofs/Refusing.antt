@@ -1,15 +1,18 @@
 -- Which row of judge's table applies, check by check; the parts serve the other services too.
 -- Assumes nothing.
-use mathlib.Core.Path.{_≡_, ap, _∙_}
-use mathlib.Core.Bool.{Bool, true, false, cond}
+use mathlib.Core.Path.{_≡_, refl, sym, ap, _∙_, subst}
+use mathlib.Core.Bool.{Bool, true, false, cond, _&&_, false≢true}
 use mathlib.Core.List.{List, [], _∷_, _++_}
 use Prim.Native.Nat.{ℕ, _≤_, _<_}
 use lib.ListN.{length}
-use borrow.Author.Tests.{lt-ltb, le-ltb}
+use lib.Dec.{leb}
+use borrow.Author.Tests.{lt-ltb, le-ltb, leb-true, not-false}
+use Rattle.listing.specs.Bytes.{nodesOf}
+use Rattle.listing.specs.Answer.{Answer, refusal}
 use Rattle.listing.specs.Rules.{Rule, rule, Refusal, passed, refused, firstOf}
 use Rattle.listing.specs.Read.{readRules, Admitted}
 use Rattle.listing.proofs.Table.{pass, stop}
-use Rattle.verdict.specs.Judging.{wrongQuestion, questionRules, bufferRules, CHAIN, judgeRules}
+use Rattle.verdict.specs.Judging.{wrongQuestion, questionRules, bufferRules, CHAIN, judgeRules, Told, Judging, JudgePromise}
 
 -- ── A table of one row ──────────────────────────────────────────────────────
 pub row-applies : (b : Bool) (k p : ℕ) → b ≡ true → firstOf (rule b k p ∷ []) ≡ refused k p
@@ -50,3 +53,21 @@ module _ (q : ℕ) (s old : List ℕ) where
 
   pub judge-passes : wrongQuestion q ≡ false → Admitted s → CHAIN ≤ length old → firstOf (judgeRules q s old) ≡ passed
   judge-passes e h l = past-listing e h ∙ buffer-passes CHAIN old l
+
+  -- A REFUSAL keeps judge's promise, and so does a verdict where nothing is refused
+  pub judge-refused : (k p : ℕ) → firstOf (judgeRules q s old) ≡ refused k p → JudgePromise q s old old (refusal k p)
+  judge-refused k p e = subst (λ (f : Refusal). Judging f q (nodesOf s) old old (refusal k p)) (sym e) (refl, refl)
+
+  pub judge-told : (new : List ℕ) (r : Answer) → firstOf (judgeRules q s old) ≡ passed → Told q (nodesOf s) old new r → JudgePromise q s old new r
+  judge-told new r e t = subst (λ (f : Refusal). Judging f q (nodesOf s) old new r) (sym e) t
+
+-- a question that rule 1 lets pass is 1 to 4
+pub question-in : (q : ℕ) → wrongQuestion q ≡ false → (1 ≤ q) × (q ≤ 4)
+unfolding wrongQuestion
+question-in q e =
+    let h = and-true (leb 1 q) (leb q 4) (not-false _ e) in
+    (leb-true 1 q (h .0), leb-true q 4 (h .1))
+  where
+    and-true : (a b : Bool) → (a && b) ≡ true → (a ≡ true) × (b ≡ true)
+    and-true true b h = (refl, h)
+    and-true false b h = absurd (false≢true h)

@@ -1,6 +1,12 @@
 // The judge: the verdict of a listing under a question, with the first failing pair and its chain.
 ghost use mathlib.Core.Path.{_≡_};
-ghost use Rattle.verdict.specs.Judging.{wrongQuestion};
+ghost use Prim.Native.Nat.{_*_, _≤_};
+ghost use lib.ListN.{length};
+ghost use Rattle.listing.specs.Bytes.{countN, nodesOf};
+ghost use Rattle.listing.specs.Read.{Admitted};
+ghost use Rattle.verdict.specs.Judging.{CHAIN, wrongQuestion, judgeSays, Told, JudgePromise};
+ghost use Rattle.verdict.specs.Showing.{Chained, Followed, Showed};
+use listing::ReadAnswer;
 
 // What judging answers.
 pub enum JudgeAnswer {
@@ -30,4 +36,91 @@ pub fn wrong_question(question: u64) -> bool
         return true;
     }
     false
+}
+
+// Puts the pairs that follow (a, b) on its chain at the buffer's start, and says how many there are. (a, b) is taken out of the pairs.
+fn follow(
+    bytes: &[u8],
+    p: &mut [u64; 256],
+    m: &[u64; 256],
+    a: usize,
+    b: usize,
+    out: &mut [u8],
+) -> usize
+    requires { ⌜ Chained (now bytes) (now p) (now m) a b × (2 * countN (now bytes) ≤ length (now out)) ⌝ }
+    ensures { λ k. ⌜ Followed (nodesOf (now (bytes .entry))) a b (now (out .entry)) (now (out .exit)) k ⌝ }
+{
+    let n = listing::node_count(bytes);
+    let mut ends = [0u64; 2];
+    fails::copy_row(m, a, &mut ends);
+    reach::take_out(p, a, b);
+    let mut v = [0u64; 256];
+    let mut d = [0u8; 128];
+    chains::chain(n, m, p, &ends, b, &mut v, &mut d, out)
+}
+
+// Puts the chain of (a, b) at the buffer's start, and says how many pairs it has.
+fn show_chain(
+    bytes: &[u8],
+    p: &mut [u64; 256],
+    m: &[u64; 256],
+    a: usize,
+    b: usize,
+    out: &mut [u8],
+) -> usize
+    requires { ⌜ Chained (now bytes) (now p) (now m) a b × (CHAIN ≤ length (now out)) ⌝ }
+    ensures { λ k. ⌜ Showed (nodesOf (now (bytes .entry))) a b (now (out .entry)) (now (out .exit)) k ⌝ }
+{
+    out[0] = a as u8;
+    out[1] = b as u8;
+    follow(bytes, p, m, a, b, &mut out[2..]) + 1
+}
+
+// The verdict of a listing that was admitted.
+pub fn decide(question: u8, bytes: &[u8], chain: &mut [u8]) -> JudgeAnswer
+    requires { ⌜ (1 ≤ question) × (question ≤ 4) × Admitted (now bytes) × (CHAIN ≤ length (now chain)) ⌝ }
+    ensures { λ r. ⌜ Told question (nodesOf (now (bytes .entry))) (now (chain .entry)) (now (chain .exit)) (judgeSays r) ⌝ }
+{
+    let mut p = [0u64; 256];
+    let mut m = [0u64; 256];
+    let mut c = [0u64; 256];
+    let mut i = [0u64; 256];
+    fails::suspects(question, bytes, &mut p, &mut m, &mut c);
+    fails::exchanged_rows(bytes, &p, &mut i);
+    let n = listing::node_count(bytes);
+    let first = failing::first_failing(question, bytes, &c, &i);
+    if first == n {
+        return JudgeAnswer::Robust;
+    }
+    let second = failing::second_failing(question, bytes, &c, &i, first);
+    let count = show_chain(bytes, &mut p, &m, first, second, chain);
+    JudgeAnswer::Open {
+        first,
+        second,
+        count,
+    }
+}
+
+// ROBUST, or OPEN with the first failing pair and its chain, or the first of the refusals 1 to 12 and 16 that applies.
+pub fn judge(question: u64, bytes: &[u8], chain: &mut [u8]) -> JudgeAnswer
+    ensures { λ r. ⌜ JudgePromise question (now (bytes .entry)) (now (chain .entry)) (now (chain .exit)) (judgeSays r) ⌝ }
+{
+    if wrong_question(question) {
+        return JudgeAnswer::Refused {
+            number: 1,
+            place: 0,
+        };
+    }
+    match listing::read(bytes) {
+        ReadAnswer::Refused { number, place } => JudgeAnswer::Refused { number, place },
+        ReadAnswer::Good(_) => {
+            if chain.len() < CHAIN_BYTES {
+                return JudgeAnswer::Refused {
+                    number: 16,
+                    place: 0,
+                };
+            }
+            decide(question as u8, bytes, chain)
+        }
+    }
 }
