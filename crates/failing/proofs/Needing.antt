@@ -1,16 +1,16 @@
 -- From what the failing-pair test reads to whether the pair fails.
 -- Assumes nothing.
-use mathlib.Core.Path.{_≡_, sym, ap, subst, _∙_}
-use mathlib.Core.Logic.{_≢_, _⊎_, inl, inr}
+use mathlib.Core.Path.{_≡_, sym, subst, _∙_}
+use mathlib.Core.Logic.{_⊎_, inl, inr}
 use mathlib.Core.Bool.{Bool, true, false, not, _||_}
 use mathlib.Core.List.{List}
 use Prim.Native.Nat.{ℕ, _≤_, _<_}
 use native.Mathlib.Omega.{arith}
-use lib.Dec.{T, eqb, eqb→eq}
+use lib.Dec.{T, eqb→eq}
 use lib.ListN.{length}
 use Rattle.listing.specs.Bytes.{countN, nodesOf}
 use Rattle.listing.specs.Node.{Listing}
-use Rattle.order.specs.Walks.{kindAt, locAt, isRead, isWrite, isRmw, isAccess, Access}
+use Rattle.order.specs.Walks.{kindAt, locAt, isRead, isWrite, isRmw, isAccess}
 use Rattle.order.specs.Chains.{surely, SurelyMeet, IsPair}
 use Rattle.order.specs.Need.{Entry, need, leave, leaveUnlessRmw, entry, entryOf, numberOf, Says, Needs, RmwInside}
 use Rattle.order.specs.Verdict.{Fails}
@@ -20,7 +20,6 @@ use Rattle.order.proofs.Entries.{number-leave, number-need, number-unless, numb
 use Rattle.reach.specs.Rows.{Has, Tells, Holds}
 use Rattle.fails.specs.Failing.{Suspect, Exchanged}
 use Rattle.failing.specs.First.{Prepared}
-use Rattle.fails.proofs.Chained.{suspect-fails}
 use Rattle.fails.proofs.Tests.{no-fails, told-yes}
 
 -- an access's kind is one of the table's
@@ -38,6 +37,13 @@ kind-below k t = go (one→ (isRead k) (isWrite k || isRmw k) t)
 -- a suspect is a pair
 pub suspect-pair : (q : ℕ) (L : Listing) (a b : ℕ) → Suspect q L a b → IsPair L (a, b)
 suspect-pair q L a b s = s .0 .1 .pairs .0
+
+-- a suspect that needs order, with ends that don't surely meet, fails
+pub suspect-fails : (q : ℕ) (L : Listing) (a b : ℕ) → Suspect q L a b → Needs q L a b → (SurelyMeet L a b → ⊥) → Fails q L a b
+suspect-fails q L a b s n k = record { chain = s .0; needs = n; apart = k; unbarred = s .1 }
+
+pub fails-suspect : (q : ℕ) (L : Listing) (a b : ℕ) → Fails q L a b → Suspect q L a b
+fails-suspect q L a b f = (f .chain, f .unbarred)
 
 -- what the rows name is a suspect
 pub suspected : {q : ℕ} {bytes c i : List ℕ} → Prepared q bytes c i → (a b : ℕ) → b < countN bytes

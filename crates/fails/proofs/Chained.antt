@@ -1,25 +1,22 @@
 -- From the rows of who returns to the pairs that lie on a chain, and to those that no barrier bars either.
 -- Assumes nothing.
-use mathlib.Core.Logic.{_≢_, _⊎_, inl, inr}
+use mathlib.Core.Path.{_≡_}
+use mathlib.Core.Logic.{_⊎_, inl, inr}
 use mathlib.Core.List.{List}
 use Prim.Native.Nat.{ℕ, _≤_, _<_}
 use native.Mathlib.Omega.{arith}
 use lib.ListN.{length}
-use mathlib.Core.Path.{_≡_}
 use Rattle.listing.specs.Node.{Listing}
-use Rattle.order.specs.Walks.{Access}
-use Rattle.order.specs.Chains.{MayMeet, IsPair}
-use Rattle.order.specs.Need.{Needs}
-use Rattle.order.specs.Chains.{SurelyMeet}
-use Rattle.order.specs.Verdict.{Fails}
+use Rattle.order.specs.Walks.{Access, Pair}
+use Rattle.order.specs.Chains.{IsPair}
 use Rattle.order.proofs.Laws.{access-in}
 use Rattle.reach.specs.Rows.{Has, Holds}
 use Rattle.reach.specs.Whole.{Common}
-use Rattle.fails.specs.Back.{Around, Home, Returns, RowReturns}
+use Rattle.fails.specs.Back.{ComesRound, Home, Returns, RowReturns}
 use Rattle.fails.specs.Failing.{Meeting, Clear, OnChain, Suspect}
 use Rattle.fails.proofs.OnChain.{chain-returns, returns-chain}
 
-module _ (L : Listing) (n : ℕ) (size : n ≡ length L) (small : n ≤ 128) (p m w : List ℕ) (hp : Holds p n (λ a b. IsPair L (a, b))) (hm : Holds m n (Meeting L)) (hw : Holds w n (λ a b. Access L a × Access L b × Around L a b)) where
+module _ (L : Listing) (n : ℕ) (size : n ≡ length L) (small : n ≤ 128) (p m w : List ℕ) (hp : Holds p n (Pair L)) (hm : Holds m n (Meeting L)) (hw : Holds w n (ComesRound L)) where
   home-of : (a d : ℕ) → d < 128 → Has m a d ⊎ Has w a d → Home L a d
   home-of a d l (inl h) = inl (hm .sound a d l h .2 .2)
   home-of a d l (inr h) = inr (hw .sound a d l h .2 .2)
@@ -61,10 +58,3 @@ suspects-hold q L n f c c′ small hf hc k = record {
       (x .0, x .1, (x .2, hf .sound a b l (g .1) .2));
   whole = λ a b la lb s. k .keeps a b (omega arith) (hc .whole a b la lb (s .0)) (hf .whole a b la lb (s .1));
 }
-
--- a suspect that needs order, with ends that don't surely meet, fails
-pub suspect-fails : (q : ℕ) (L : Listing) (a b : ℕ) → Suspect q L a b → Needs q L a b → (SurelyMeet L a b → ⊥) → Fails q L a b
-suspect-fails q L a b s n k = record { chain = s .0; needs = n; apart = k; unbarred = s .1 }
-
-pub fails-suspect : (q : ℕ) (L : Listing) (a b : ℕ) → Fails q L a b → Suspect q L a b
-fails-suspect q L a b f = (f .chain, f .unbarred)

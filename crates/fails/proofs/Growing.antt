@@ -1,11 +1,11 @@
 -- Sets and rows that are filled node by node, over any property and any relation.
 -- Assumes nothing.
-use mathlib.Core.Path.{_≡_, refl, sym, subst}
+use mathlib.Core.Path.{_≡_, sym, subst}
 use mathlib.Core.Logic.{_⊎_, inl, inr}
 use mathlib.Core.List.{List}
 use Prim.Native.Nat.{ℕ, _+_, _≤_, _<_}
 use native.Mathlib.Omega.{arith}
-use native.Mathlib.Decide.{decLt, ℕ-discrete}
+use native.Mathlib.Decide.{decLt}
 use Rattle.reach.specs.Rows.{Has, Holds, Members, Blank}
 use Rattle.reach.specs.Touched.{Added}
 use Rattle.fails.specs.Growing.{RowGrown, RowsDone}

@@ -1,7 +1,7 @@
 -- What rows of bits keep, turned from rows over rows into the rules' own relations.
 -- Assumes nothing.
-use mathlib.Core.Path.{_≡_, refl, sym, subst}
-use mathlib.Core.Logic.{_≢_, _⊎_, inl, inr}
+use mathlib.Core.Path.{_≡_, refl, subst}
+use mathlib.Core.Logic.{inl, inr}
 use mathlib.Core.List.{List, [], _∷_, _++_}
 use mathlib.Core.Bool.{not, _||_}
 use Prim.Native.Nat.{ℕ, _≤_, _<_}
@@ -9,17 +9,16 @@ use native.Mathlib.Omega.{arith}
 use lib.Dec.{T}
 use lib.ListN.{length}
 use Rattle.listing.specs.Node.{Listing}
-use Rattle.order.specs.Rows.{All, In, Row}
-use Rattle.order.specs.Walks.{kindAt, isRead, isWrite, isRmw, isAccess, Access, Succ, Walk}
-use Rattle.order.specs.Chains.{MayMeet, Ends, IsPair, Joined}
-use Rattle.order.specs.Need.{bars, Barrier, Unbarred, RmwInside}
+use Rattle.order.specs.Rows.{All, Row}
+use Rattle.order.specs.Walks.{kindAt, isRead, isWrite, isRmw, isAccess, Access, Succ, Walk, Pair}
+use Rattle.order.specs.Need.{bars, Barrier, RmwInside}
 use Rattle.order.proofs.Bools.{one}
 use Rattle.order.proofs.Lists.{all-in, in-all, in-right, Cut, cut, row-join, row-before, row-after}
 use Rattle.order.proofs.Laws.{access-in, walk-in, bars-ends}
 use Rattle.reach.specs.Rows.{Has, Holds, Members, Low, Link}
 use Rattle.reach.specs.Links.{Walked}
 use Rattle.reach.specs.Whole.{Through, Then, Turned, To, Among, Away}
-use Rattle.fails.specs.Back.{Turns, Leads, Around}
+use Rattle.fails.specs.Back.{Turns, Leads, ComesRound}
 use Rattle.fails.specs.Failing.{Meeting, Clear, Exchanged}
 use Rattle.fails.proofs.Tests.{not-true, true-not}
 use Rattle.fails.proofs.OnChain.{turns-lead, lead-turns}
@@ -42,7 +41,7 @@ module _ (L : Listing) (n : ℕ) (size : n ≡ length L) (small : n ≤ 128) whe
     free-walk a b inside w = in-all (λ c. Has every 0 c) inside (λ c i. all .whole c (omega (arith, walk-in L a inside b w c (inr i))) tt)
 
     -- PAIRS: walks between accesses
-    pub pairs-hold : (r acc p : List ℕ) → Holds r n (Walked L every) → Members acc n (Access L) → Holds p n (Among acc r) → Holds p n (λ a b. IsPair L (a, b))
+    pub pairs-hold : (r acc p : List ℕ) → Holds r n (Walked L every) → Members acc n (Access L) → Holds p n (Among acc r) → Holds p n (Pair L)
     pairs-hold r acc p hr ha hp = record {
       sound = λ a b l h.
           let g = hp .sound a b l h in
@@ -56,7 +55,7 @@ module _ (L : Listing) (n : ℕ) (size : n ≡ length L) (small : n ≤ 128) whe
           );
     }
 
-    module _ (p m : List ℕ) (hp : Holds p n (λ a b. IsPair L (a, b))) (hm : Holds m n (Meeting L)) where
+    module _ (p m : List ℕ) (hp : Holds p n (Pair L)) (hm : Holds m n (Meeting L)) where
       module _ (t w h : List ℕ) (ht : Holds t n (Turned p)) (hw : Holds w n (Then n m t)) (hh : Holds h n (Through n w every)) where
         turn-sound : (a c : ℕ) → c < 128 → Has w a c → Access L a × Turns L a c
         turn-sound a c l g =
@@ -101,7 +100,7 @@ module _ (L : Listing) (n : ℕ) (size : n ≡ length L) (small : n ≤ 128) whe
         }
 
       -- COMING ROUND: an end that meets another node than a that leads back to a
-      pub around-hold : (h h′ w : List ℕ) → Holds h n (λ a c. Access L a × Leads L a c) → Holds h′ n (Away h) → Holds w n (Then n h′ m) → Holds w n (λ a b. Access L a × Access L b × Around L a b)
+      pub around-hold : (h h′ w : List ℕ) → Holds h n (λ a c. Access L a × Leads L a c) → Holds h′ n (Away h) → Holds w n (Then n h′ m) → Holds w n (ComesRound L)
       around-hold h h′ w hh ha hw = record {
         sound = λ a b l g.
             let s = hw .sound a b l g in
@@ -144,7 +143,7 @@ module _ (L : Listing) (n : ℕ) (size : n ≡ length L) (small : n ≤ 128) whe
   }
 
   -- RMW INSIDE: a pair to an RMW, and a pair from it
-  pub exchanged-hold : (p rmw to i : List ℕ) → Holds p n (λ a b. IsPair L (a, b)) → Members rmw n (λ c. T (isRmw (kindAt L c))) → Holds to n (To rmw p) → Holds i n (Then n to p) → Holds i n (Exchanged L)
+  pub exchanged-hold : (p rmw to i : List ℕ) → Holds p n (Pair L) → Members rmw n (λ c. T (isRmw (kindAt L c))) → Holds to n (To rmw p) → Holds i n (Then n to p) → Holds i n (Exchanged L)
   exchanged-hold p rmw to i hp hr ht hi = record {
     sound = λ a b l g.
         let s = hi .sound a b l g in

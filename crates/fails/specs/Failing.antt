@@ -5,7 +5,7 @@ use Prim.Native.Nat.{ℕ}
 use Rattle.listing.specs.Node.{Listing}
 use Rattle.listing.specs.Bytes.{countN, nodesOf}
 use Rattle.order.specs.Walks.{Access, Walk, Pair}
-use Rattle.order.specs.Chains.{MayMeet, Ends, IsPair, Chain}
+use Rattle.order.specs.Chains.{MayMeet, Ends, Chain}
 use Rattle.order.specs.Need.{RmwInside, Unbarred}
 use Rattle.reach.specs.Rows.{Holds}
 

@@ -1,8 +1,7 @@
-// The failing pairs of a listing: rows of bits for all that does not depend on the pair, and one test a pair.
+// The suspects among the pairs of a listing, as rows of bits: all of the failing-pair test that does not depend on one pair.
 ghost use mathlib.Core.Path.{_≡_};
-ghost use Prim.Native.Nat.{_+_, _*_, _<_, _≤_};
+ghost use Prim.Native.Nat.{_<_, _≤_};
 ghost use lib.Dec.{T};
-ghost use lib.ListN.{length};
 ghost use Rattle.listing.specs.Bytes.{countN, nodesOf, Whole};
 ghost use Rattle.order.specs.Walks.{kindAt, Pair};
 ghost use Rattle.reach.specs.Rows.{Tells, Low, Holds, Members};

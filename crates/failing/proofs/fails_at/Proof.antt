@@ -1,12 +1,9 @@
 -- `failing::fails_at` meets its contract. Assumes nothing.
 use borrow.Author.Needs.{needs}
-use native.Mathlib.Omega.{arith}
 use mathlib.Core.Path.{sym, _∙_}
-use Prim.Native.Nat.{_<_}
 use Rattle.listing.specs.Bytes.{nodesOf}
-use Rattle.fails.proofs.Chained.{fails-suspect}
 use Rattle.fails.proofs.Tests.{yes-holds, told-no}
-use Rattle.failing.proofs.Needing.{kind-below, suspected, suspect-pair, apart-read, number-read, left-out, needed, unless-inside}
+use Rattle.failing.proofs.Needing.{kind-below, fails-suspect, suspected, suspect-pair, apart-read, number-read, left-out, needed, unless-inside}
 use Rattle.failing.proofs.fails_at.Statement.{statement}
 use Rattle.failing.proofs.fails_at.Tie as tie
 

@@ -1,5 +1,4 @@
 -- `failing::second_failing` meets its contract. Assumes nothing.
-use borrow.Author.Needs.{needs}
 use native.Mathlib.Omega.{arith}
 use borrow.Author.Count.{below-none, below-more}
 use mathlib.Core.Path.{_≡_}

@@ -2,7 +2,7 @@
 use borrow.Author.Needs.{needs}
 use native.Mathlib.Omega.{arith}
 use mathlib.Core.Path.{_≡_}
-use Prim.Native.Nat.{_≤_, _<_, _-_}
+use Prim.Native.Nat.{_≤_, _-_}
 use Rattle.listing.specs.Bytes.{countN, nodesOf}
 use Rattle.fails.specs.Failing.{Meeting}
 use Rattle.fails.specs.Growing.{RowsDone}
