@@ -1,27 +1,21 @@
 -- Going down by the least pairs gives the least of the shortest chains, and there is only one such chain.
 -- Assumes nothing.
-use mathlib.Core.Path.{_≡_, refl, sym, ap, subst, _∙_}
-use mathlib.Core.Logic.{_⊎_, inl, inr, ⊎-elim}
-use mathlib.Core.Bool.{Bool, true, false}
-use mathlib.Core.List.{List, [], _∷_}
-use Prim.Native.Nat.{ℕ, zero, suc, _+_, _*_, _≤_, _<_}
+use mathlib.Core.Path.{_≡_, refl, ap, _∙_}
+use mathlib.Core.Logic.{_⊎_, ⊎-elim}
+use mathlib.Core.List.{List, _∷_}
+use Prim.Native.Nat.{ℕ, suc, _+_, _*_, _≤_, _<_}
 use native.Mathlib.Omega.{arith}
 use native.Mathlib.Decide.{decLt, ℕ-discrete}
-use lib.ListN.{length, getD, take}
+use lib.ListN.{length, getD}
 use Rattle.order.specs.Rows.{Some}
-use Rattle.reach.specs.Rows.{Tells, Has, Holds, Link}
+use Rattle.reach.specs.Rows.{Holds, Link}
 use Rattle.reach.specs.Whole.{Then}
 use Rattle.reach.proofs.Holds.{of-link, link-of}
 use Rattle.chains.specs.Far.{Path, here, step, Target, Far}
 use Rattle.chains.specs.Best.{Chain, end, go, Lex, nil, less, same, Best, Asked, Shown}
 use Rattle.chains.specs.Levels.{Hits}
-use Rattle.chains.specs.Descent.{Nearest, Mid, End, Steep, stop, down, Leads, Slope, Downhill, Descent}
+use Rattle.chains.specs.Descent.{Nearest, Steep, stop, down, Leads, Slope, Downhill, Descent}
 use Rattle.chains.proofs.Levels.{no-steps, last-step}
-
--- a second answer, where the first is yes
-pub tells-and : (A B : Type 0) (b : Bool) → A → Tells b B → Tells b (A × B)
-tells-and A B true a t = (a, t)
-tells-and A B false a t = λ p. t (p .1)
 
 -- ---- chains and paths
 

@@ -8,8 +8,8 @@ use native.Mathlib.Omega.{arith}
 use native.Mathlib.Decide.{decLt}
 use lib.ListN.{length}
 use Rattle.listing.specs.Node.{Listing, node}
-use Rattle.order.specs.Rows.{All, Row}
-use Rattle.order.specs.Walks.{Next, Succ, Walk}
+use Rattle.order.specs.Rows.{Row}
+use Rattle.order.specs.Walks.{Next, Succ}
 use Rattle.reach.specs.Rows.{at, Has, Holds, Link, Blank}
 use Rattle.reach.specs.Whole.{Through}
 use Rattle.reach.specs.Links.{Linked, Walked}

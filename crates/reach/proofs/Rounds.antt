@@ -9,27 +9,7 @@ use native.Mathlib.Decide.{decLt, ℕ-discrete}
 use Rattle.reach.specs.Rows.{at, Has}
 use Rattle.reach.specs.Touched.{Poured}
 use Rattle.reach.specs.Whole.{Passed}
-use Rattle.reach.proofs.Rows.{at-le}
-
--- a bit of a row that another is poured into comes from one of the two
-pub poured-gives : (u w v : List ℕ) (a k y : ℕ) → Poured u w v a k → y < 128 → Has v a y → Has w a y ⊎ Has u k y
-poured-gives u w v a k y o hy h = by (ℕ-discrete (at w a y) 1)
-  where
-    by : Dec (at w a y ≡ 1) → Has w a y ⊎ Has u k y
-    by (yes e) = inl e
-    by (no e) = inr (omega (arith, o .row y hy, at-le w a y, at-le u k y))
-
-pub poured-keeps : (u w v : List ℕ) (a k x y : ℕ) → Poured u w v a k → y < 128 → Has w x y → Has v x y
-poured-keeps u w v a k x y o hy h = by (ℕ-discrete x a)
-  where
-    by : Dec (x ≡ a) → Has v x y
-    by (yes e) =
-        let h′ : Has w a y = rw e at h in
-        rw e (omega (arith, o .row y hy, at-le u k y))
-    by (no e) = o .rest x y hy e ∙ h
-
-pub poured-brings : (u w v : List ℕ) (a k y : ℕ) → Poured u w v a k → y < 128 → Has u k y → Has v a y
-poured-brings u w v a k y o hy h = omega (arith, o .row y hy, at-le w a y)
+use Rattle.reach.proofs.Rows.{poured-gives, poured-keeps, poured-brings}
 
 pub passed-none : (w : List ℕ) (k : ℕ) → Passed w w 0 k
 passed-none w k = record { gives = λ x y hy h. inl h; keeps = λ x y hy h. h; done = λ x y hx hy p q. absurd (omega arith) }

@@ -1,10 +1,10 @@
 -- The laws of rows: a bit, a row and all rows touched, tests, and two rows that meet.
 -- Assumes nothing.
 use mathlib.Core.Path.{_≡_, refl, sym, ap, _∙_}
-use mathlib.Core.Logic.{_⊎_, inl, inr, ⊎-elim}
+use mathlib.Core.Logic.{_⊎_, inl, inr}
 use mathlib.Core.Bool.{Bool, true, false, not}
 use mathlib.Core.List.{List}
-use Prim.Native.Nat.{ℕ, zero, suc, _+_, _-_, _*_, _/_, _%_, _^_, _≤_, _<_, min, max}
+use Prim.Native.Nat.{ℕ, _+_, _-_, _*_, _/_, _%_, _^_, _≤_, _<_, min, max}
 use native.Mathlib.Omega.{arith}
 use native.Mathlib.Decide.{decLt, ℕ-discrete}
 use borrow.Author.Count.{below-more}
@@ -14,7 +14,7 @@ use lib.Bits.{bitOr, bitAnd, and-lt, and-zero-l, or-zero-l}
 use lib.ListN.{length, getD, set, length-set, List·getD-eq-default}
 use lib.Seq.{getD-set-same, getD-set-other}
 use Rattle.reach.specs.Rows.{Tells, bit, at, Has, Blank, Meet}
-use Rattle.reach.specs.Touched.{Added, Removed, Mixed, Emptied}
+use Rattle.reach.specs.Touched.{Added, Removed, Mixed, Poured, Emptied}
 use Rattle.reach.specs.Whole.{Common, United, Without}
 use Rattle.reach.proofs.Bit.{hot, bitLess, bit-or, bit-and, bit-less, bit-le, bit-zero, some-bit, bit-hot-same, bit-hot-other}
 
@@ -198,6 +198,26 @@ emptied w a long = record { row = row; rest = λ x y hy ne. at-other w a 0 0 lon
         by : Dec (y < 64) → ⊥
         by (yes l) = none (low-word w a 0 0 long y l)
         by (no l) = none (high-word w a 0 0 long y (omega arith) hy)
+
+-- a bit of a row that another is poured into comes from one of the two
+pub poured-gives : (u w v : List ℕ) (a k y : ℕ) → Poured u w v a k → y < 128 → Has v a y → Has w a y ⊎ Has u k y
+poured-gives u w v a k y o hy h = by (ℕ-discrete (at w a y) 1)
+  where
+    by : Dec (at w a y ≡ 1) → Has w a y ⊎ Has u k y
+    by (yes e) = inl e
+    by (no e) = inr (omega (arith, o .row y hy, at-le w a y, at-le u k y))
+
+pub poured-keeps : (u w v : List ℕ) (a k x y : ℕ) → Poured u w v a k → y < 128 → Has w x y → Has v x y
+poured-keeps u w v a k x y o hy h = by (ℕ-discrete x a)
+  where
+    by : Dec (x ≡ a) → Has v x y
+    by (yes e) =
+        let h′ : Has w a y = rw e at h in
+        rw e (omega (arith, o .row y hy, at-le u k y))
+    by (no e) = o .rest x y hy e ∙ h
+
+pub poured-brings : (u w v : List ℕ) (a k y : ℕ) → Poured u w v a k → y < 128 → Has u k y → Has v a y
+poured-brings u w v a k y o hy h = omega (arith, o .row y hy, at-le w a y)
 
 -- words of no bits
 pub blank : (w : List ℕ) → ((j : ℕ) → j < length w → getD w j 0 ≡ 0) → Blank w

@@ -9,7 +9,7 @@ use native.Mathlib.Decide.{decLt, ℕ-discrete}
 use Rattle.reach.specs.Rows.{at, Has, Holds, Low, Blank}
 use Rattle.reach.specs.Touched.{Added, Poured}
 use Rattle.reach.specs.Whole.{Then, Pouring, Turned, Turning}
-use Rattle.reach.proofs.Rounds.{poured-gives, poured-keeps, poured-brings}
+use Rattle.reach.proofs.Rows.{poured-gives, poured-keeps, poured-brings}
 
 -- ---- two steps
 

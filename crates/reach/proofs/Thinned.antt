@@ -1,13 +1,12 @@
 -- Rows thinned one after the other: of each row only what satisfies P is kept.
 -- Assumes nothing.
 use mathlib.Core.Path.{_≡_, sym, subst, _∙_}
-use mathlib.Core.Logic.{_⊎_, inl, inr, ⊎-elim}
-use mathlib.Core.Bool.{Bool, true, false, not}
+use mathlib.Core.Logic.{_⊎_, ⊎-elim}
 use mathlib.Core.List.{List}
 use Prim.Native.Nat.{ℕ, _+_, _≤_, _<_}
 use native.Mathlib.Omega.{arith}
 use native.Mathlib.Decide.{decLt, ℕ-discrete}
-use Rattle.reach.specs.Rows.{Tells, at, Has, Holds, Low, Blank}
+use Rattle.reach.specs.Rows.{at, Has, Holds, Low, Blank}
 use Rattle.reach.specs.Touched.{Removed, Sifted, Emptied}
 use Rattle.reach.specs.Whole.{From, To, Among, United}
 use Rattle.reach.proofs.Rows.{at-le}
@@ -107,15 +106,6 @@ parts v z k hk o =
       gives = o .gives;
       keeps = λ x y hy h ne. o .keeps x y hy (λ p. let a = p .0 in let b = p .1 in ne (omega arith)) h;
     }
-
--- what the test of a negation says
-pub tells-no : (A : Type 0) (b : Bool) → not b ≡ true → Tells b A → A → ⊥
-tells-no A true e t = let z : _≡_ {A = ℕ} 0 1 = cc in omega arith
-tells-no A false e t = t
-
-pub tells-yes : (A : Type 0) (b : Bool) → not b ≡ false → Tells b A → A
-tells-yes A true e t = t
-tells-yes A false e t = let z : _≡_ {A = ℕ} 0 1 = cc in absurd (omega arith)
 
 -- a set's columns and then its rows are what is among the set
 pub among : (s w v z : List ℕ) (n : ℕ) → n ≤ 128 → Holds v n (To s w) → Holds z n (From s v) → Holds z n (Among s w)

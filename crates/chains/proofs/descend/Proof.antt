@@ -1,8 +1,6 @@
 -- `chains::descend` meets its contract. Assumes nothing.
-use borrow.Author.Needs.{needs}
 use native.Mathlib.Omega.{arith}
-use mathlib.Core.Path.{_≡_}
-use Prim.Native.Nat.{ℕ, _+_, _*_, _≤_, _<_, _-_}
+use Prim.Native.Nat.{_-_}
 use Rattle.chains.proofs.Going.{Going, going-none, going-more, going-all}
 use Rattle.chains.proofs.Levels.{hits-meet}
 use Rattle.chains.proofs.descend.Statement.{statement}
@@ -44,10 +42,15 @@ cast-write-pair-2 : tie.Need-cast-write-pair-2 Inv-loop μ-loop
 cast-write-pair-2 c = omega (arith, c .before .first-end .ensures .low, c .before .before .before .before .before .before .before .before .before .before .pre .few)
 
 write-pair-requires : tie.Need-write-pair-requires Inv-loop μ-loop
-write-pair-requires c κs = let g = c .before .before .before .before .before .before .before .before .loop .inv in omega (arith, g .long, g .sum, c .before .before .before .before .before .before .before .before .before .before .pre .fits, c .before .before .before .before .before .before .before .loop-test .taken)
+write-pair-requires c κs =
+    let g = c .before .before .before .before .before .before .before .before .loop .inv in
+    omega (arith, g .long, g .sum, c .before .before .before .before .before .before .before .before .before .before .pre .fits, c .before .before .before .before .before .before .before .loop-test .taken)
 
 add-i : tie.Need-add-i Inv-loop μ-loop
-add-i c = let g = c .before .before .before .before .before .before .before .before .before .before .before .loop .inv in let p = c .before .before .before .before .before .before .before .before .before .before .before .before .before .pre in omega (arith, g .sum, p .room, p .few)
+add-i c =
+    let g = c .before .before .before .before .before .before .before .before .before .before .before .loop .inv in
+    let p = c .before .before .before .before .before .before .before .before .before .before .before .before .before .pre in
+    omega (arith, g .sum, p .room, p .few)
 
 loop-less : tie.Need-loop-less Inv-loop μ-loop
 loop-less c = omega (arith, c .before .before .before .before .before .before .before .before .before .before .loop-test .taken)

@@ -32,7 +32,10 @@ loop-again : tie.Need-loop-again Inv-loop μ-loop
 loop-again c = (omega arith, below-more _ _ (c .before .before .before .before .before .before .loop .inv .1) (rw (c .if1 .left) at (c .before .is-mid .ensures)))
 
 returns-2 : tie.Need-returns-2 Inv-loop μ-loop
-returns-2 c = let h = c .before .before .pre .2 in let a = h .1 in absurd (c .before .loop .inv .1 (h .0) (omega arith) (h .2, h .3))
+returns-2 c =
+    let h = c .before .before .pre .2 in
+    let a = h .1 in
+    absurd (c .before .loop .inv .1 (h .0) (omega arith) (h .2, h .3))
 
 pub first-mid-spec : {M : Type 1} → statement M
 first-mid-spec =

@@ -1,7 +1,7 @@
 -- `chains::is_end` meets its contract. Assumes nothing.
 use borrow.Author.Needs.{needs}
 use Rattle.reach.specs.Rows.{Has}
-use Rattle.chains.proofs.Chains.{tells-and}
+use Rattle.reach.proofs.Tells.{tells-and}
 use Rattle.chains.proofs.is_end.Statement.{statement}
 use Rattle.chains.proofs.is_end.Tie as tie
 

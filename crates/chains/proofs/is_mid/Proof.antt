@@ -1,7 +1,7 @@
 -- `chains::is_mid` meets its contract. Assumes nothing.
 use borrow.Author.Needs.{needs}
 use Rattle.reach.specs.Rows.{Has, Meet}
-use Rattle.chains.proofs.Chains.{tells-and}
+use Rattle.reach.proofs.Tells.{tells-and}
 use Rattle.chains.proofs.is_mid.Statement.{statement}
 use Rattle.chains.proofs.is_mid.Tie as tie
 

@@ -30,7 +30,9 @@ loop-again : tie.Need-loop-again Inv-loop μ-loop
 loop-again c = (omega arith, nearest-more _ _ _ _ _ _ (c .before .before .before .before .loop .inv .1) (c .nearer .ensures))
 
 returns : tie.Need-returns Inv-loop μ-loop
-returns c = let e : c .before .loop .y ≡ c .before .before .args .n = omega arith in rw e at (c .before .loop .inv .1)
+returns c =
+    let e : c .before .loop .y ≡ c .before .before .args .n = omega arith in
+    rw e at (c .before .loop .inv .1)
 
 pub nearest-spec : {M : Type 1} → statement M
 nearest-spec =

@@ -2,7 +2,7 @@
 use borrow.Author.Needs.{needs}
 use native.Mathlib.Omega.{arith}
 use mathlib.Core.Path.{_≡_}
-use Prim.Native.Nat.{_≤_, _<_, _-_}
+use Prim.Native.Nat.{_≤_, _-_}
 use Rattle.chains.specs.Levels.{Swept}
 use Rattle.chains.proofs.Levels.{swept-none, swept-more}
 use Rattle.chains.proofs.sweep.Statement.{statement}
@@ -33,7 +33,9 @@ loop-again : tie.Need-loop-again Inv-loop μ-loop
 loop-again c = (omega arith, omega (arith, c .visit .ensures .few), swept-more _ _ _ _ _ _ _ _ _ (c .before .before .before .before .before .loop .inv .2) (c .visit .ensures))
 
 returns : tie.Need-returns Inv-loop μ-loop
-returns c = let e : c .before .loop .x ≡ c .before .before .args .n = omega arith in rw e at (c .before .loop .inv .2)
+returns c =
+    let e : c .before .loop .x ≡ c .before .before .args .n = omega arith in
+    rw e at (c .before .loop .inv .2)
 
 pub sweep-spec : {M : Type 1} → statement M
 sweep-spec =

@@ -20,7 +20,9 @@ same-length : tie.Need-same-length
 same-length c = search needs
 
 returns : tie.Need-returns
-returns c = let p = c .before .before .before .before .before .before .before .pre in visit-new _ _ _ _ _ (p .2) (p .3) (c .before .before .if1 .taken) (rw (c .if2 .taken) at (c .before .meet .ensures))
+returns c =
+    let p = c .before .before .before .before .before .before .before .pre in
+    visit-new _ _ _ _ _ (p .2) (p .3) (c .before .before .if1 .taken) (rw (c .if2 .taken) at (c .before .meet .ensures))
 
 returns-2 : tie.Need-returns-2
 returns-2 c = visit-far _ _ _ _ _ (c .before .before .if1 .taken) (rw (c .if2 .left) at (c .before .meet .ensures))

@@ -40,7 +40,9 @@ loop-again c =
     (c .if1 .came)
 
 returns : tie.Need-returns Inv-loop μ-loop
-returns c = let e : c .before .loop .k ≡ c .before .before .args .n = omega arith in round-all _ _ _ _ (c .before .before .pre .0) (rw e at (c .before .loop .inv .1))
+returns c =
+    let e : c .before .loop .k ≡ c .before .before .args .n = omega arith in
+    round-all _ _ _ _ (c .before .before .pre .0) (rw e at (c .before .loop .inv .1))
 
 pub close-spec : {M : Type 1} → statement M
 close-spec =

@@ -11,7 +11,9 @@ add-all-requires : tie.Need-add-all-requires
 add-all-requires c κs = search needs
 
 keep-columns-requires : tie.Need-keep-columns-requires
-keep-columns-requires c κs = let p = c .before .before .before .before .before .before .pre in (p .0, copied-low _ _ _ _ (c .before .before .before .before .clear .ensures) (c .before .add-all .ensures) (p .1))
+keep-columns-requires c κs =
+    let p = c .before .before .before .before .before .before .pre in
+    (p .0, copied-low _ _ _ _ (c .before .before .before .before .clear .ensures) (c .before .add-all .ensures) (p .1))
 
 returns : tie.Need-returns
 returns c = copied-to _ _ _ _ _ _ (c .before .before .before .before .before .before .before .pre .0) (c .before .before .before .before .before .clear .ensures) (c .before .before .add-all .ensures) (c .keep-columns .ensures)

@@ -2,7 +2,7 @@
 use borrow.Author.Needs.{needs}
 use native.Mathlib.Omega.{arith}
 use mathlib.Core.Path.{_≡_}
-use Prim.Native.Nat.{_≤_, _<_, _-_}
+use Prim.Native.Nat.{_≤_, _-_}
 use Rattle.reach.proofs.Steps.{Composed, composed-none, composed-more, composed-all}
 use Rattle.reach.proofs.compose.Statement.{statement}
 use Rattle.reach.proofs.compose.Tie as tie

@@ -3,7 +3,7 @@ use borrow.Author.Needs.{needs}
 use native.Mathlib.Omega.{arith}
 use mathlib.Core.Path.{_≡_}
 use mathlib.Core.Logic.{⊎-elim}
-use Prim.Native.Nat.{_≤_, _<_, _-_}
+use Prim.Native.Nat.{_≤_, _-_}
 use Rattle.reach.specs.Whole.{Pouring}
 use Rattle.reach.proofs.Steps.{pouring-none, pouring-skip, pouring-more}
 use Rattle.reach.proofs.compose_row.Statement.{statement}
@@ -39,7 +39,9 @@ loop-again c =
     (c .if1 .came)
 
 returns : tie.Need-returns Inv-loop μ-loop
-returns c = let e : c .before .loop .c ≡ c .before .before .args .n = omega arith in rw e at (c .before .loop .inv .1)
+returns c =
+    let e : c .before .loop .c ≡ c .before .before .args .n = omega arith in
+    rw e at (c .before .loop .inv .1)
 
 pub compose-row-spec : {M : Type 1} → statement M
 compose-row-spec =

@@ -2,7 +2,7 @@
 use borrow.Author.Needs.{needs}
 use native.Mathlib.Omega.{arith}
 use mathlib.Core.Path.{_≡_}
-use Prim.Native.Nat.{_≤_, _<_, _-_}
+use Prim.Native.Nat.{_≤_, _-_}
 use Rattle.reach.specs.Rows.{Has}
 use Rattle.reach.proofs.Thinned.{Thinned, thinned-none, thinned-more, thinned-all, sifts}
 use Rattle.reach.proofs.keep_columns.Statement.{statement}
@@ -30,7 +30,10 @@ loop-again : tie.Need-loop-again Inv-loop μ-loop
 loop-again c = (omega arith, thinned-more _ _ _ _ (c .before .before .before .before .loop .inv .1) (sifts _ _ _ _ (c .sift .ensures)))
 
 returns : tie.Need-returns Inv-loop μ-loop
-returns c = let p = c .before .before .pre in let e : c .before .loop .a ≡ c .before .before .args .n = omega arith in thinned-all _ _ _ (p .0) (p .1) (rw e at (c .before .loop .inv .1))
+returns c =
+    let p = c .before .before .pre in
+    let e : c .before .loop .a ≡ c .before .before .args .n = omega arith in
+    thinned-all _ _ _ (p .0) (p .1) (rw e at (c .before .loop .inv .1))
 
 pub keep-columns-spec : {M : Type 1} → statement M
 keep-columns-spec =

@@ -3,9 +3,10 @@ use borrow.Author.Needs.{needs}
 use native.Mathlib.Omega.{arith}
 use mathlib.Core.Path.{_≡_}
 use mathlib.Core.Logic.{⊎-elim}
-use Prim.Native.Nat.{_≤_, _<_, _-_}
+use Prim.Native.Nat.{_≤_, _-_}
 use Rattle.reach.specs.Rows.{Has}
-use Rattle.reach.proofs.Thinned.{Thinned, thinned-none, thinned-more, thinned-all, stays, drops, tells-no, tells-yes}
+use Rattle.reach.proofs.Tells.{tells-no, tells-yes}
+use Rattle.reach.proofs.Thinned.{Thinned, thinned-none, thinned-more, thinned-all, stays, drops}
 use Rattle.reach.proofs.keep_rows.Statement.{statement}
 use Rattle.reach.proofs.keep_rows.Tie as tie
 
@@ -40,7 +41,10 @@ loop-again c =
     (c .if1 .came)
 
 returns : tie.Need-returns Inv-loop μ-loop
-returns c = let p = c .before .before .pre in let e : c .before .loop .a ≡ c .before .before .args .n = omega arith in thinned-all _ _ _ (p .0) (p .1) (rw e at (c .before .loop .inv .1))
+returns c =
+    let p = c .before .before .pre in
+    let e : c .before .loop .a ≡ c .before .before .args .n = omega arith in
+    thinned-all _ _ _ (p .0) (p .1) (rw e at (c .before .loop .inv .1))
 
 pub keep-rows-spec : {M : Type 1} → statement M
 keep-rows-spec =

@@ -1,9 +1,6 @@
 -- `reach::meet` meets its contract. Assumes nothing.
 use Rattle.reach.proofs.Rows.{meet-low, meet-last}
-use native.Mathlib.Omega.{arith}
-use lib.ListN.{length, getD}
-use mathlib.Core.Path.{_≡_, refl, sym, _∙_}
-use Prim.Native.Nat.{ℕ, _+_, _*_, _≤_, _<_, _-_}
+use Prim.Native.Nat.{_+_, _*_, _-_}
 use borrow.Author.Needs.{needs}
 use Rattle.reach.proofs.meet.Statement.{statement}
 use Rattle.reach.proofs.meet.Tie as tie
@@ -27,7 +24,9 @@ shared-slice-read-if1-2 : tie.Need-shared-slice-read-if1-2
 shared-slice-read-if1-2 c = search needs
 
 returns : tie.Need-returns
-returns c = let a = c .before .before .before .args in meet-low _ _ _ _ (c .before .before .shared-slice-known .given (2 * a .a) .fits) (c .before .shared-slice-known2 .given (2 * a .z) .fits) (c .if1 .taken)
+returns c =
+    let a = c .before .before .before .args in
+    meet-low _ _ _ _ (c .before .before .shared-slice-known .given (2 * a .a) .fits) (c .before .shared-slice-known2 .given (2 * a .z) .fits) (c .if1 .taken)
 
 add-result : tie.Need-add-result
 add-result c = search needs
@@ -48,7 +47,9 @@ shared-slice-read-result-2 : tie.Need-shared-slice-read-result-2
 shared-slice-read-result-2 c = search needs
 
 returns-2 : tie.Need-returns-2
-returns-2 c = let a = c .before .before .before .before .before .args in meet-last (a .w .now) (a .s .now) (a .a) (a .z) (c .before .before .if1 .left) (c .before .shared-slice-known3 .given (2 * a .a + 1) .fits) (c .shared-slice-known4 .given (2 * a .z + 1) .fits)
+returns-2 c =
+    let a = c .before .before .before .before .before .args in
+    meet-last (a .w .now) (a .s .now) (a .a) (a .z) (c .before .before .if1 .left) (c .before .shared-slice-known3 .given (2 * a .a + 1) .fits) (c .shared-slice-known4 .given (2 * a .z + 1) .fits)
 
 pub meet-spec : {M : Type 1} → statement M
 meet-spec =

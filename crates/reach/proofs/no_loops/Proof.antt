@@ -2,7 +2,7 @@
 use borrow.Author.Needs.{needs}
 use native.Mathlib.Omega.{arith}
 use mathlib.Core.Path.{_≡_}
-use Prim.Native.Nat.{_≤_, _<_, _-_}
+use Prim.Native.Nat.{_≤_, _-_}
 use Rattle.reach.proofs.Thinned.{Thinned, thinned-none, thinned-more, thinned-all, parts}
 use Rattle.reach.proofs.no_loops.Statement.{statement}
 use Rattle.reach.proofs.no_loops.Tie as tie
@@ -26,10 +26,15 @@ loop-less : tie.Need-loop-less Inv-loop μ-loop
 loop-less c = omega arith
 
 loop-again : tie.Need-loop-again Inv-loop μ-loop
-loop-again c = let p = c .before .before .before .before .pre in (omega arith, thinned-more _ _ _ _ (c .before .before .before .loop .inv .1) (parts _ _ _ (omega arith) (c .take-out .ensures)))
+loop-again c =
+    let p = c .before .before .before .before .pre in
+    (omega arith, thinned-more _ _ _ _ (c .before .before .before .loop .inv .1) (parts _ _ _ (omega arith) (c .take-out .ensures)))
 
 returns : tie.Need-returns Inv-loop μ-loop
-returns c = let p = c .before .before .pre in let e : c .before .loop .a ≡ c .before .before .args .n = omega arith in thinned-all _ _ _ (p .0) (p .1) (rw e at (c .before .loop .inv .1))
+returns c =
+    let p = c .before .before .pre in
+    let e : c .before .loop .a ≡ c .before .before .args .n = omega arith in
+    thinned-all _ _ _ (p .0) (p .1) (rw e at (c .before .loop .inv .1))
 
 pub no-loops-spec : {M : Type 1} → statement M
 no-loops-spec =

@@ -1,6 +1,4 @@
 -- `reach::sift` meets its contract. Assumes nothing.
-use native.Mathlib.Omega.{arith}
-use lib.ListN.{length-set}
 use lib.Bits.{bitAnd}
 use Prim.Native.Nat.{min}
 use Rattle.reach.proofs.Bit.{bit-and}

@@ -49,7 +49,9 @@ same-length : tie.Need-same-length Inv-loop μ-loop
 same-length c = c .before .loop .inv .2 .long
 
 returns : tie.Need-returns Inv-loop μ-loop
-returns c = let g = c .before .loop .inv .2 in without _ _ _ (c .before .before .pre) (g .long) (λ j h. g .done j (omega arith))
+returns c =
+    let g = c .before .loop .inv .2 in
+    without _ _ _ (c .before .before .pre) (g .long) (λ j h. g .done j (omega arith))
 
 pub take-away-spec : {M : Type 1} → statement M
 take-away-spec =

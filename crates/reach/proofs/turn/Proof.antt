@@ -2,7 +2,7 @@
 use borrow.Author.Needs.{needs}
 use native.Mathlib.Omega.{arith}
 use mathlib.Core.Path.{_≡_}
-use Prim.Native.Nat.{_≤_, _<_, _-_}
+use Prim.Native.Nat.{_≤_, _-_}
 use Rattle.reach.proofs.Steps.{Turns, turns-none, turns-more, turns-all}
 use Rattle.reach.proofs.turn.Statement.{statement}
 use Rattle.reach.proofs.turn.Tie as tie

@@ -15,7 +15,9 @@ node-count-requires : tie.Need-node-count-requires
 node-count-requires c κs = search needs
 
 close-requires : tie.Need-close-requires
-close-requires c κs = let e = c .before .node-count .ensures in (e .1, rw (e .0) (holds-low (c .before .before .links .ensures)))
+close-requires c κs =
+    let e = c .before .node-count .ensures in
+    (e .1, rw (e .0) (holds-low (c .before .before .links .ensures)))
 
 returns : tie.Need-returns
 returns c =
