@@ -7,7 +7,7 @@ use native.Mathlib.Omega.{arith}
 use native.Mathlib.Numerals.{one-add}
 use native.Mathlib.Decide.{decLt, ℕ-discrete}
 use lib.Pow.{pow-pos, pow-lt, pow-add, shl-exact, shl-shr, shr-shr}
-use lib.Bits.{bitOr, bitAnd, bitXor, differ, or-step, or-shr, and-step, and-shr, xor-step, xor-shr}
+use lib.Bits.{bitOr, bitAnd, bitXor, differ, or-step, or-shr, and-step, and-shr, xor-step, xor-shr, and-lt}
 use Rattle.reach.specs.Rows.{bit}
 
 low-or : (x y : ℕ) → bitOr x y % 2 ≡ max (x % 2) (y % 2)
@@ -98,7 +98,7 @@ unfolding bit
 bit-zero i = ap (λ (u : ℕ). u % 2) (div-eq-of-lt (pow-pos i))
 
 -- some bit of it is set
-pub some-bit : (k z : ℕ) → z < 2 ^ k → (z ≡ 0 → ⊥) → (i : ℕ) × (i < k) × (bit z i ≡ 1)
+some-bit : (k z : ℕ) → z < 2 ^ k → (z ≡ 0 → ⊥) → (i : ℕ) × (i < k) × (bit z i ≡ 1)
 unfolding bit
 some-bit zero z h ne = absurd (ne (omega arith))
 some-bit (suc k) z h ne = by (ℕ-discrete (z % 2) 1) (λ n. some-bit k (z / 2) (omega (arith, pow-suc 2 k)) n)
@@ -110,3 +110,19 @@ some-bit (suc k) z h ne = by (ℕ-discrete (z % 2) 1) (λ n. some-bit k (z / 2) 
         let i = r .0 in
         let hi = r .1 in
         (suc i, omega arith, ap (λ (u : ℕ). u % 2) (ap (λ (u : ℕ). z / 2 ^ u) (sym (one-add i)) ∙ sym (shr-shr z 1 i)) ∙ r .2)
+
+-- two words with a bit in common, and with none
+pub common-bit : (x y : ℕ) → x < 2 ^ 64 → y < 2 ^ 64 → (bitAnd x y ≡ 0 → ⊥) → (i : ℕ) × (i < 64) × (bit x i ≡ 1) × (bit y i ≡ 1)
+common-bit x y hx hy ne =
+    let p = some-bit 64 (bitAnd x y) (and-lt 64 x y hx hy) ne in
+    let b = p .2 in
+    let c = bit-and x y (p .0) in
+    let lx = bit-le x (p .0) in
+    let ly = bit-le y (p .0) in
+    (p .0, p .1, omega arith, omega arith)
+
+pub no-common : (x y i : ℕ) → bitAnd x y ≡ 0 → bit x i ≡ 1 → bit y i ≡ 1 → ⊥
+no-common x y i e a b =
+    let c = bit-and x y i in
+    let z : bit (bitAnd x y) i ≡ 0 = ap (λ (u : ℕ). bit u i) e ∙ bit-zero i in
+    omega arith

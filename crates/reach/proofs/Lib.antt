@@ -7,3 +7,4 @@ pub mod Ways
 pub mod Loading
 pub mod Steps
 pub mod Thinned
+pub mod Relations

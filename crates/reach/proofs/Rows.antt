@@ -10,13 +10,13 @@ use native.Mathlib.Decide.{decLt, ℕ-discrete}
 use borrow.Author.Count.{below-more}
 use borrow.Author.Tests.{eqb-true, eqb-false}
 use lib.Dec.{eqb}
-use lib.Bits.{bitOr, bitAnd, and-lt, and-zero-l, or-zero-l}
+use lib.Bits.{bitOr, bitAnd, and-zero-l, or-zero-l}
 use lib.ListN.{length, getD, set, length-set, List·getD-eq-default}
 use lib.Seq.{getD-set-same, getD-set-other}
 use Rattle.reach.specs.Rows.{Tells, bit, at, Has, Blank, Meet}
 use Rattle.reach.specs.Touched.{Added, Removed, Mixed, Poured, Emptied}
 use Rattle.reach.specs.Whole.{Common, United, Without}
-use Rattle.reach.proofs.Bit.{hot, bitLess, bit-or, bit-and, bit-less, bit-le, bit-zero, some-bit, bit-hot-same, bit-hot-other}
+use Rattle.reach.proofs.Bit.{hot, bitLess, bit-or, bit-and, bit-less, bit-zero, common-bit, no-common, bit-hot-same, bit-hot-other}
 
 -- a bit is 0 or 1
 pub at-le : (w : List ℕ) (a b : ℕ) → at w a b ≤ 1
@@ -258,47 +258,32 @@ module _ (w s : List ℕ) (x z : ℕ) where
 
   pub meet-low : getD w (2 * x) 0 < 2 ^ 64 → getD s (2 * z) 0 < 2 ^ 64 → (bitAnd (getD w (2 * x) 0) (getD s (2 * z) 0) ≡ 0 → ⊥) → Meet w x s z
   meet-low hw hs ne =
-      let p = some-bit 64 (bitAnd (getD w (2 * x) 0) (getD s (2 * z) 0)) (and-lt 64 (getD w (2 * x) 0) (getD s (2 * z) 0) hw hs) ne in
+      let p = common-bit (getD w (2 * x) 0) (getD s (2 * z) 0) hw hs ne in
       let i = p .0 in
-      let hi = p .1 in
-      let b = p .2 in
-      let c = bit-and (getD w (2 * x) 0) (getD s (2 * z) 0) i in
-      let lw = bit-le (getD w (2 * x) 0) i in
-      let ls = bit-le (getD s (2 * z) 0) i in
-      (i, omega arith, at-low w x i hi ∙ omega arith, at-low s z i hi ∙ omega arith)
+      let h = p .1 in
+      (i, omega arith, at-low w x i h ∙ p .2, at-low s z i h ∙ p .3)
 
-  pub meet-high : getD w (2 * x + 1) 0 < 2 ^ 64 → getD s (2 * z + 1) 0 < 2 ^ 64 → (bitAnd (getD w (2 * x + 1) 0) (getD s (2 * z + 1) 0) ≡ 0 → ⊥) → Meet w x s z
+  meet-high : getD w (2 * x + 1) 0 < 2 ^ 64 → getD s (2 * z + 1) 0 < 2 ^ 64 → (bitAnd (getD w (2 * x + 1) 0) (getD s (2 * z + 1) 0) ≡ 0 → ⊥) → Meet w x s z
   meet-high hw hs ne =
-      let p = some-bit 64 (bitAnd (getD w (2 * x + 1) 0) (getD s (2 * z + 1) 0)) (and-lt 64 (getD w (2 * x + 1) 0) (getD s (2 * z + 1) 0) hw hs) ne in
+      let p = common-bit (getD w (2 * x + 1) 0) (getD s (2 * z + 1) 0) hw hs ne in
       let i = p .0 in
-      let hi = p .1 in
-      let b = p .2 in
-      let c = bit-and (getD w (2 * x + 1) 0) (getD s (2 * z + 1) 0) i in
-      let lw = bit-le (getD w (2 * x + 1) 0) i in
-      let ls = bit-le (getD s (2 * z + 1) 0) i in
-      (64 + i, omega arith, at-high w x i hi ∙ omega arith, at-high s z i hi ∙ omega arith)
+      let h = p .1 in
+      (64 + i, omega arith, at-high w x i h ∙ p .2, at-high s z i h ∙ p .3)
 
-  pub meet-none : bitAnd (getD w (2 * x) 0) (getD s (2 * z) 0) ≡ 0 → bitAnd (getD w (2 * x + 1) 0) (getD s (2 * z + 1) 0) ≡ 0 → Meet w x s z → ⊥
-  meet-none el eh m = by (decLt y 64)
+  meet-none : bitAnd (getD w (2 * x) 0) (getD s (2 * z) 0) ≡ 0 → bitAnd (getD w (2 * x + 1) 0) (getD s (2 * z + 1) 0) ≡ 0 → Meet w x s z → ⊥
+  meet-none el eh m = by (decLt (m .0) 64)
     where
-      y : ℕ
-      y = m .0
-
       by : Dec (m .0 < 64) → ⊥
       by (yes h) =
-          let a = sym (at-low w x (m .0) h) ∙ m .2 in
-          let b = sym (at-low s z (m .0) h) ∙ m .3 in
-          let c = bit-and (getD w (2 * x) 0) (getD s (2 * z) 0) (m .0) in
-          let e : bit (bitAnd (getD w (2 * x) 0) (getD s (2 * z) 0)) (m .0) ≡ 0 = ap (λ (u : ℕ). bit u (m .0)) el ∙ bit-zero (m .0) in
-          omega arith
+          no-common (getD w (2 * x) 0) (getD s (2 * z) 0) (m .0) el (sym (at-low w x (m .0) h) ∙ m .2) (sym (at-low s z (m .0) h) ∙ m .3)
       by (no h) =
           let l = m .1 in
+          let i = m .0 - 64 in
           let q : 64 + (m .0 - 64) ≡ m .0 = omega arith in
-          let a = sym (at-high w x (m .0 - 64) (omega arith)) ∙ ap (λ (u : ℕ). at w x u) q ∙ m .2 in
-          let b = sym (at-high s z (m .0 - 64) (omega arith)) ∙ ap (λ (u : ℕ). at s z u) q ∙ m .3 in
-          let c = bit-and (getD w (2 * x + 1) 0) (getD s (2 * z + 1) 0) (m .0 - 64) in
-          let e : bit (bitAnd (getD w (2 * x + 1) 0) (getD s (2 * z + 1) 0)) (m .0 - 64) ≡ 0 = ap (λ (u : ℕ). bit u (m .0 - 64)) eh ∙ bit-zero (m .0 - 64) in
-          omega arith
+          let k : m .0 - 64 < 64 = omega arith in
+          no-common (getD w (2 * x + 1) 0) (getD s (2 * z + 1) 0) i eh
+          (sym (at-high w x i k) ∙ ap (λ (u : ℕ). at w x u) q ∙ m .2)
+          (sym (at-high s z i k) ∙ ap (λ (u : ℕ). at s z u) q ∙ m .3)
 
   pub meet-last : bitAnd (getD w (2 * x) 0) (getD s (2 * z) 0) ≡ 0 → getD w (2 * x + 1) 0 < 2 ^ 64 → getD s (2 * z + 1) 0 < 2 ^ 64
       → Tells (not (eqb (bitAnd (getD w (2 * x + 1) 0) (getD s (2 * z + 1) 0)) 0)) (Meet w x s z)
