@@ -1,12 +1,12 @@
 -- Going down by the least pairs gives the least of the shortest chains, and there is only one such chain.
 -- Assumes nothing.
-use mathlib.Core.Path.{_≡_, refl, ap, _∙_}
+use mathlib.Core.Path.{_≡_, refl, sym, ap, _∙_}
 use mathlib.Core.Logic.{_⊎_, ⊎-elim}
-use mathlib.Core.List.{List, _∷_}
+use mathlib.Core.List.{List, _∷_, _++_}
 use Prim.Native.Nat.{ℕ, suc, _+_, _*_, _≤_, _<_}
 use native.Mathlib.Omega.{arith}
 use native.Mathlib.Decide.{decLt, ℕ-discrete}
-use lib.ListN.{length, getD}
+use lib.ListN.{length, getD, take, drop, take-append-drop}
 use Rattle.order.specs.Rows.{Some}
 use Rattle.reach.specs.Rows.{Holds, Link}
 use Rattle.reach.specs.Whole.{Then}
@@ -216,9 +216,22 @@ lex-both (less h) (same q) = absurd (omega arith)
 lex-both (same p) (less k) = absurd (omega arith)
 lex-both (same {a = a} p) (same q) = ap (λ (z : List ℕ). a ∷ z) (lex-both p q)
 
--- THE LEAST OF THE SHORTEST CHAINS IS ONE
 pub best-one : (M W : ℕ → ℕ → Type 0) (T : ℕ → Type 0) (x : ℕ) (l k : List ℕ) → Best M W T x l → Best M W T x k → l ≡ k
 best-one M W T x l k p q =
     let a = p .short k (q .chain) (q .some) in
     let b = q .short l (p .chain) (p .some) in
     lex-both (p .least k (q .chain) (q .some) (omega arith)) (q .least l (p .chain) (p .some) (omega arith))
+
+-- THE ANSWER AND THE BUFFER ARE ONE
+pub shown-one : (n : ℕ) (m w t o p q : List ℕ) (x k j : ℕ) → Shown n m w t o p x k → Shown n m w t o q x j → (k ≡ j) × (p ≡ q)
+shown-one n m w t o p q x k j a b = by (ℕ-discrete k 0) (ℕ-discrete j 0)
+  where
+    by : Dec (k ≡ 0) → Dec (j ≡ 0) → (k ≡ j) × (p ≡ q)
+    by (yes e) (yes f) = (e ∙ sym f, a .still e ∙ sym (b .still f))
+    by (yes e) (no f) = let c = b .best f in absurd (a .never e (take (2 * j) q) (c .chain) (c .some))
+    by (no e) (yes f) = let c = a .best e in absurd (b .never f (take (2 * k) p) (c .chain) (c .some))
+    by (no e) (no f) =
+        let g : take (2 * k) p ≡ take (2 * j) q = best-one (Link n m) (Link n w) (Target n t) x (take (2 * k) p) (take (2 * j) q) (a .best e) (b .best f) in
+        let h : k ≡ j = omega (arith, ap length g, a .count, b .count) in
+        let d : drop (2 * k) p ≡ drop (2 * j) q = a .beyond ∙ ap (λ (i : ℕ). drop (2 * i) o) h ∙ sym (b .beyond) in
+        (h, sym (take-append-drop (2 * k) p) ∙ ap (λ (l : List ℕ). l ++ drop (2 * k) p) g ∙ ap (λ (l : List ℕ). take (2 * j) q ++ l) d ∙ take-append-drop (2 * j) q)
