@@ -1,0 +1,79 @@
+//! Whole inputs: a question, a listing, a map, and the lengths of the lent buffers.
+
+use crate::damage::damaged;
+use crate::listings::random_listing;
+use crate::random::Random;
+
+#[derive(Clone, Debug)]
+pub struct Call {
+    pub question: u64,
+    pub listing: Vec<u8>,
+    pub map: Vec<u8>,
+    pub chain_room: usize,
+    pub map_room: usize,
+    pub listing_room: usize,
+}
+
+impl Call {
+    pub fn random(random: &mut Random) -> Call {
+        let nodes = count(random);
+        let good = random_listing(random, nodes);
+        let map = map(random, nodes);
+        let places = map.iter().filter(|&&byte| byte == 1).count();
+        let listing = if random.once_in(5) { damaged(random, good) } else { good };
+        Call {
+            question: question(random),
+            chain_room: room(random, 258),
+            map_room: room(random, nodes),
+            listing_room: room(random, 7 + 6 * (nodes + places)),
+            listing,
+            map,
+        }
+    }
+}
+
+/// How many nodes: mostly few, at times as many as can be.
+fn count(random: &mut Random) -> usize {
+    match random.below(40) {
+        0 => random.one_of(&[0, 1, 127, 128]),
+        1 => random.from_to(65, 128),
+        2..=4 => random.from_to(21, 64),
+        5..=14 => random.from_to(9, 20),
+        _ => random.from_to(1, 8),
+    }
+}
+
+/// A question, at times one that is good in its lowest byte alone.
+fn question(random: &mut Random) -> u64 {
+    match random.below(20) {
+        0 => random.one_of(&[0, 5, 6, 255, u64::MAX]),
+        1 => random.from_to(1, 4) as u64 + (1 << random.from_to(8, 63)),
+        _ => random.from_to(1, 4) as u64,
+    }
+}
+
+fn map(random: &mut Random, nodes: usize) -> Vec<u8> {
+    let once_in = random.one_of(&[1, 2, 4, 10, 1000]);
+    let mut map: Vec<u8> = (0..nodes).map(|_| random.once_in(once_in) as u8).collect();
+    match random.below(16) {
+        0 => map.truncate(random.below(nodes + 1)),
+        1 => map.extend((0..random.from_to(1, 3)).map(|_| 0)),
+        2 => {
+            for _ in 0..random.from_to(1, 2).min(nodes) {
+                map[random.below(nodes)] = random.from_to(2, 255) as u8;
+            }
+        }
+        _ => {}
+    }
+    map
+}
+
+/// The length of a lent buffer that must have `wanted` bytes.
+fn room(random: &mut Random, wanted: usize) -> usize {
+    match random.below(12) {
+        0 => random.below(wanted + 1),
+        1 => wanted.saturating_sub(1),
+        2..=5 => wanted,
+        _ => wanted + random.from_to(1, 40),
+    }
+}

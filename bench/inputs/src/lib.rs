@@ -1,0 +1,15 @@
+//! Inputs to try the services on: listings by hand, by chance and by shape, and what can be wrong with them.
+//!
+//! Everything is made from a seed, so that a run can be repeated.
+
+mod calls;
+mod damage;
+mod listings;
+mod random;
+mod sketch;
+
+pub use calls::Call;
+pub use damage::damaged;
+pub use listings::{lonely_line, random_listing, ring, tiny_listing};
+pub use random::Random;
+pub use sketch::{bytes, sketch, Record, NONE};

@@ -1,0 +1,54 @@
+//! Listings by hand.
+
+/// "Successor 255 means none."
+pub const NONE: u8 = 255;
+
+/// A record of a listing, good or bad.
+#[derive(Clone, Copy, Debug, PartialEq, Eq)]
+pub struct Record {
+    pub routine: u8,
+    pub kind: u8,
+    pub location: u16,
+    pub first: u8,
+    pub second: u8,
+}
+
+/// The bytes of a listing with these records.
+pub fn bytes(routines: u8, records: &[Record]) -> Vec<u8> {
+    let mut bytes = vec![0x4F, 0x52, 0x44, 1, 0, routines, records.len() as u8];
+    for record in records {
+        let [low, high] = record.location.to_le_bytes();
+        bytes.extend([record.routine, record.kind, low, high, record.first, record.second]);
+    }
+    bytes
+}
+
+/// A listing from words: `p`, `r`, `w`, `u` (RMW) or `f`, then the location of an access; `;` ends a routine.
+///
+/// Arrows go to the next node of the routine unless said by `>first` or `>first,second`.
+///
+/// ```
+/// assert_eq!(inputs::sketch("w1>1 r2>0"), b"ORD\x01\x00\x01\x02\x00\x02\x01\x00\x01\xff\x00\x01\x02\x00\x00\xff");
+/// ```
+pub fn sketch(text: &str) -> Vec<u8> {
+    let routines: Vec<Vec<&str>> = text.split(';').map(|routine| routine.split_whitespace().collect()).collect();
+    let mut records = Vec::new();
+    for (routine, words) in routines.iter().enumerate() {
+        for (at, word) in words.iter().enumerate() {
+            let next = if at + 1 < words.len() { records.len() as u8 + 1 } else { NONE };
+            records.push(record(routine as u8, word, next));
+        }
+    }
+    bytes(routines.len() as u8, &records)
+}
+
+fn record(routine: u8, word: &str, next: u8) -> Record {
+    let (node, arrows) = word.split_once('>').unwrap_or((word, ""));
+    let kind = "prwuf".find(&node[..1]).expect("a word starts with p, r, w, u or f") as u8;
+    let location = if node.len() > 1 { node[1..].parse().expect("a location is a number") } else { 0 };
+    let mut arrows =
+        arrows.split(',').filter(|arrow| !arrow.is_empty()).map(|arrow| arrow.parse().expect("an arrow goes to a node"));
+    let first = arrows.next().unwrap_or(next);
+    let second = arrows.next().unwrap_or(NONE);
+    Record { routine, kind, location, first, second }
+}

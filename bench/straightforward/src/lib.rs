@@ -1,0 +1,25 @@
+//! The five services, written straight from document 01's text: an answer of its own to hold against the proved judge.
+//!
+//! Each file is one idea of the document, in its words. Nothing here is meant to be fast.
+//!
+//! ```
+//! let sb = b"ORD\x01\x00\x02\x04\x00\x02\x01\x00\x01\xff\x00\x01\x02\x00\xff\xff\x01\x02\x02\x00\x03\xff\x01\x01\x01\x00\xff\xff";
+//! let mut chain = [0; 258];
+//! let answer = straightforward::judge(1, sb, &mut chain).unwrap();
+//! assert_eq!(answer, straightforward::Answer::Open { first: 0, second: 1, count: 2 });
+//! assert_eq!(chain[..4], [0, 1, 2, 3]);
+//! ```
+
+mod chains;
+mod listing;
+mod need;
+mod patch;
+mod refusals;
+mod services;
+mod verdict;
+mod walks;
+
+pub use listing::{Kind, Listing, Node, HEADING, MOST_NODES, MOST_ROUTINES, NONE, RECORD};
+pub use need::Question;
+pub use refusals::Refusal;
+pub use services::{judge, judge_patch, program, propose, read, write, Answer, CHAIN_BUFFER};

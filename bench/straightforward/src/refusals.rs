@@ -1,0 +1,112 @@
+//! The table of refusals, a function for each input of a service. A service asks for its inputs in the table's order.
+
+use crate::listing::{Kind, Listing, Node, HEADING, MOST_NODES, MOST_ROUTINES, NONE, RECORD};
+use crate::need::Question;
+
+#[derive(Clone, Copy, Debug, PartialEq, Eq)]
+pub struct Refusal {
+    pub number: u64,
+    pub place: u64,
+}
+
+fn refuse<T>(number: u64, place: usize) -> Result<T, Refusal> {
+    Err(Refusal { number, place: place as u64 })
+}
+
+/// Refusal 1.
+pub fn question(number: u64) -> Result<Question, Refusal> {
+    match number {
+        1 => Ok(Question::ScOnX86),
+        2 => Ok(Question::ScOnArmv7),
+        3 => Ok(Question::X86OnArmv7),
+        4 => Ok(Question::Armv8OnArmv7),
+        _ => refuse(1, 0),
+    }
+}
+
+/// Refusals 2 to 12.
+pub fn listing(bytes: &[u8]) -> Result<Listing, Refusal> {
+    if bytes.len() < HEADING {
+        return refuse(2, 0);
+    }
+    if bytes[0..3] != [0x4F, 0x52, 0x44] {
+        return refuse(3, 0);
+    }
+    if u16::from_le_bytes([bytes[3], bytes[4]]) != 1 {
+        return refuse(4, 0);
+    }
+    let routines = bytes[5];
+    if routines == 0 || routines as usize > MOST_ROUTINES {
+        return refuse(5, 0);
+    }
+    let count = bytes[6] as usize;
+    if count > MOST_NODES {
+        return refuse(6, 0);
+    }
+    if bytes.len() != HEADING + RECORD * count {
+        return refuse(7, 0);
+    }
+    let records: Vec<&[u8]> = bytes[HEADING..].chunks(RECORD).collect();
+    let mut nodes = Vec::new();
+    for number in 0..count {
+        nodes.push(node(routines, &records, number)?);
+    }
+    Ok(Listing { routines, nodes })
+}
+
+/// Refusals 8 to 12, "all tried on node 0, then on node 1, and so on".
+fn node(routines: u8, records: &[&[u8]], number: usize) -> Result<Node, Refusal> {
+    let record = records[number];
+    let routine = record[0];
+    if routine >= routines {
+        return refuse(8, number);
+    }
+    let Some(kind) = Kind::of(record[1]) else {
+        return refuse(9, number);
+    };
+    let location = u16::from_le_bytes([record[2], record[3]]);
+    if !kind.is_access() && location != 0 {
+        return refuse(10, number);
+    }
+    let (first, second) = (record[4], record[5]);
+    for successor in [first, second] {
+        if successor != NONE && !records.get(successor as usize).is_some_and(|other| other[0] == routine) {
+            return refuse(11, number);
+        }
+    }
+    if second != NONE && (first == NONE || second <= first) {
+        return refuse(12, number);
+    }
+    let link = |byte: u8| (byte != NONE).then_some(byte as usize);
+    Ok(Node { routine, kind, location, successors: [link(first), link(second)] })
+}
+
+/// Refusals 13 to 15: after which nodes a fence is put.
+pub fn map(bytes: &[u8], listing: &Listing) -> Result<Vec<bool>, Refusal> {
+    if bytes.len() != listing.nodes.len() {
+        return refuse(13, 0);
+    }
+    if let Some(index) = bytes.iter().position(|&byte| byte > 1) {
+        return refuse(14, index);
+    }
+    let fenced: Vec<bool> = bytes.iter().map(|&byte| byte == 1).collect();
+    places(&fenced)?;
+    Ok(fenced)
+}
+
+/// Refusal 15, or how many places the map has.
+pub fn places(fenced: &[bool]) -> Result<usize, Refusal> {
+    let places = fenced.iter().filter(|&&fence| fence).count();
+    if fenced.len() + places > MOST_NODES {
+        return refuse(15, 0);
+    }
+    Ok(places)
+}
+
+/// Refusal 16.
+pub fn room(lent: &[u8], wanted: usize) -> Result<(), Refusal> {
+    if lent.len() < wanted {
+        return refuse(16, 0);
+    }
+    Ok(())
+}

@@ -1,0 +1,226 @@
+//! The rules once more, by trying everything: all walks, all lists of different pairs, all short closed chains of steps.
+//! Thousands of tiny listings are judged both ways.
+
+use inputs::{tiny_listing, Random};
+use straightforward::{judge, judge_patch, propose, write, Answer, CHAIN_BUFFER};
+
+type Pair = (usize, usize);
+
+/// A walk: its first node, what is inside, its last node.
+type Walk = (usize, Vec<usize>, usize);
+
+struct Tiny<'a> {
+    records: Vec<&'a [u8]>,
+    walks: Vec<Walk>,
+    question: u64,
+}
+
+impl<'a> Tiny<'a> {
+    /// Every walk of at most `links` links is tried.
+    fn new(question: u64, listing: &'a [u8], links: usize) -> Tiny<'a> {
+        let records: Vec<&[u8]> = listing[7..].chunks(6).collect();
+        let mut walks: Vec<Walk> = Vec::new();
+        let mut last: Vec<Vec<usize>> = (0..records.len()).map(|node| vec![node]).collect();
+        for _ in 0..links {
+            let mut longer = Vec::new();
+            for visited in &last {
+                for &next in records[visited[visited.len() - 1]][4..6].iter().filter(|&&next| next != 255) {
+                    walks.push((visited[0], visited[1..].to_vec(), next as usize));
+                    longer.push([&visited[..], &[next as usize]].concat());
+                }
+            }
+            last = longer;
+        }
+        Tiny { records, walks, question }
+    }
+
+    fn kind(&self, node: usize) -> u8 {
+        self.records[node][1]
+    }
+
+    fn location(&self, node: usize) -> u16 {
+        self.records[node][2] as u16 + 256 * self.records[node][3] as u16
+    }
+
+    fn accesses(&self, pair: Pair) -> bool {
+        [pair.0, pair.1].iter().all(|&node| [1, 2, 3].contains(&self.kind(node)))
+    }
+
+    fn insides(&self, pair: Pair) -> impl Iterator<Item = &Vec<usize>> {
+        self.walks.iter().filter(move |walk| (walk.0, walk.2) == pair).map(|walk| &walk.1)
+    }
+
+    /// The pairs, by first node, then second node.
+    fn pairs(&self) -> Vec<Pair> {
+        let nodes = self.records.len();
+        let all = (0..nodes).flat_map(|first| (0..nodes).map(move |second| (first, second)));
+        all.filter(|&pair| self.accesses(pair) && self.insides(pair).next().is_some()).collect()
+    }
+
+    fn may_meet(&self, one: usize, other: usize) -> bool {
+        let (one, other) = (self.location(one), self.location(other));
+        one == 0 || other == 0 || one == other
+    }
+
+    fn surely_meet(&self, (one, other): Pair) -> bool {
+        let (one, other) = (self.location(one), self.location(other));
+        one == other && one > 0 && one < 32768
+    }
+
+    fn needs_order(&self, pair: Pair) -> bool {
+        let kinds = (self.kind(pair.0), self.kind(pair.1));
+        match self.question {
+            1 => kinds == (2, 1),
+            2 => true,
+            3 => kinds != (2, 1) || self.insides(pair).any(|inside| inside.iter().any(|&node| self.kind(node) == 3)),
+            _ => kinds.0 != 2,
+        }
+    }
+
+    fn has_barrier(&self, inside: &[usize]) -> bool {
+        inside.iter().any(|&node| self.kind(node) == 4 || (self.question == 1 && self.kind(node) == 3))
+    }
+
+    /// All the chains that go on from `list`, with at most `most` pairs, given to `see`.
+    fn chains(&self, pairs: &[Pair], list: &mut Vec<Pair>, most: usize, see: &mut impl FnMut(&[Pair])) {
+        let last = list[list.len() - 1];
+        if list.len() >= 2 && self.may_meet(last.1, list[0].0) {
+            see(list);
+        }
+        if list.len() == most {
+            return;
+        }
+        for &pair in pairs {
+            if self.may_meet(last.1, pair.0) && !list.contains(&pair) {
+                list.push(pair);
+                self.chains(pairs, list, most, see);
+                list.pop();
+            }
+        }
+    }
+
+    /// The chain with the fewest pairs, and among those the smallest.
+    fn shown_chain(&self, pairs: &[Pair], start: Pair) -> Option<Vec<Pair>> {
+        let mut best: Option<Vec<Pair>> = None;
+        self.chains(pairs, &mut vec![start], self.records.len() + 1, &mut |chain| {
+            if best.as_ref().map_or(true, |best| (chain.len(), chain) < (best.len(), &best[..])) {
+                best = Some(chain.to_vec());
+            }
+        });
+        best
+    }
+
+    /// The failing pairs in order, each with its chain.
+    fn failing(&self) -> Vec<Vec<Pair>> {
+        let pairs = self.pairs();
+        let fails = |pair: &Pair| {
+            self.needs_order(*pair) && !self.surely_meet(*pair) && self.insides(*pair).any(|inside| !self.has_barrier(inside))
+        };
+        pairs.iter().filter(|pair| fails(pair)).filter_map(|&pair| self.shown_chain(&pairs, pair)).collect()
+    }
+
+    /// Demand 3: every closed chain of at most `most` steps has each step in order or free of need.
+    ///
+    /// A closed chain may start at any of its steps, so only its first step is looked at.
+    fn ordered(&self, most: usize) -> bool {
+        let pairs = self.pairs();
+        self.walks.iter().filter(|walk| self.accesses((walk.0, walk.2))).all(|(first, inside, second)| {
+            let pair = (*first, *second);
+            let in_order = self.surely_meet(pair) || self.has_barrier(inside);
+            in_order || !self.needs_order(pair) || !self.on_ring(&pairs, &mut vec![pair], most)
+        })
+    }
+
+    /// Some closed chain goes on from these steps: "at least two, repeats allowed, not all of the same pair of nodes".
+    fn on_ring(&self, pairs: &[Pair], steps: &mut Vec<Pair>, most: usize) -> bool {
+        let last = steps[steps.len() - 1];
+        if steps.iter().any(|&step| step != steps[0]) && self.may_meet(last.1, steps[0].0) {
+            return true;
+        }
+        steps.len() < most
+            && pairs.iter().any(|&next| {
+                self.may_meet(last.1, next.0) && {
+                    steps.push(next);
+                    let closes = self.on_ring(pairs, steps, most);
+                    steps.pop();
+                    closes
+                }
+            })
+    }
+}
+
+/// Links that visit every node twice: enough for a walk past an RMW.
+fn links(listing: &[u8]) -> usize {
+    2 * listing[6] as usize
+}
+
+fn judged(question: u64, listing: &[u8], map: &[u8]) -> Option<Vec<Pair>> {
+    let mut chain = [0; CHAIN_BUFFER];
+    match judge_patch(question, listing, map, &mut chain).unwrap() {
+        Answer::Robust => None,
+        Answer::Open { first, second, count } => {
+            assert_eq!((chain[0], chain[1]), (first as u8, second as u8));
+            Some(chain[..2 * count].chunks(2).map(|pair| (pair[0] as usize, pair[1] as usize)).collect())
+        }
+    }
+}
+
+#[test]
+fn verdict_chain_and_proposal_by_trying_everything() {
+    let mut random = Random::seeded(1);
+    let (mut open, mut long) = (0, 0);
+    for _ in 0..6000 {
+        let listing = tiny_listing(&mut random);
+        let nodes = listing[6] as usize;
+        for question in 1..=4 {
+            let failing = Tiny::new(question, &listing, links(&listing)).failing();
+            assert_eq!(judged(question, &listing, &vec![0; nodes]), failing.first().cloned(), "{question} {listing:?}");
+            let expected: Vec<u8> = (0..nodes).map(|node| failing.iter().any(|chain| chain[0].0 == node) as u8).collect();
+            let mut map = vec![7; nodes];
+            assert_eq!(propose(question, &listing, &mut map).unwrap(), expected.iter().filter(|&&byte| byte == 1).count());
+            assert_eq!(map, expected, "{question} {listing:?}");
+            open += !failing.is_empty() as usize;
+            long += failing.iter().any(|chain| chain.len() > 2) as usize;
+        }
+    }
+    assert!(open > 2000 && long > 100, "too few open listings ({open}) or long chains ({long}) to mean anything");
+}
+
+#[test]
+fn demand_3_by_trying_short_closed_chains() {
+    let mut random = Random::seeded(3);
+    for _ in 0..2000 {
+        let listing = tiny_listing(&mut random);
+        let nodes = listing[6] as usize;
+        for question in 1..=4 {
+            let mut chain = [0; CHAIN_BUFFER];
+            let robust = judge(question, &listing, &mut chain).unwrap() == Answer::Robust;
+            // four accesses: no chain to show has more than five pairs
+            assert_eq!(Tiny::new(question, &listing, links(&listing)).ordered(5), robust, "{question} {listing:?}");
+            let mut map = vec![0; nodes];
+            propose(question, &listing, &mut map).unwrap();
+            assert_eq!(judged(question, &listing, &map), None, "the proposal is not accepted: {question} {listing:?}");
+        }
+    }
+}
+
+#[test]
+fn patches_by_trying_everything_on_the_written_listing() {
+    let mut random = Random::seeded(5);
+    for _ in 0..2000 {
+        let listing = tiny_listing(&mut random);
+        if listing[6] > 4 {
+            continue; // with the fences there would be too many walks to try
+        }
+        let map: Vec<u8> = (0..listing[6]).map(|_| random.once_in(3) as u8).collect();
+        let mut written = [0; 7 + 6 * 8];
+        let length = write(&listing, &map, &mut written).unwrap();
+        for question in 1..=4 {
+            let tiny = Tiny::new(question, &written[..length], links(&written));
+            let pairs = tiny.pairs();
+            let first = tiny.failing().into_iter().next();
+            assert_eq!(judged(question, &listing, &map), first, "{question} {map:?} {listing:?}");
+            assert!(pairs.iter().all(|pair| pair.0.max(pair.1) < map.len()), "a fence is no access");
+        }
+    }
+}

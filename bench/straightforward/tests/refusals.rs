@@ -1,0 +1,123 @@
+//! The table of refusals: a smallest input for each row, and the order of the rows.
+
+use inputs::{bytes, sketch, Record, NONE};
+use straightforward::{judge, judge_patch, propose, read, write, Refusal};
+
+const A: &str = "w1 r2; w2 r1";
+
+fn refused<T>(number: u64, place: u64) -> Result<T, Refusal> {
+    Err(Refusal { number, place })
+}
+
+/// A listing of two routines whose node 1 is this one; node 0 and node 2 are plain, of routine 0 and 1.
+fn with_node(kind: u8, location: u16, first: u8, second: u8) -> Vec<u8> {
+    let plain = |routine| Record { routine, kind: 0, location: 0, first: NONE, second: NONE };
+    bytes(2, &[plain(0), Record { routine: 0, kind, location, first, second }, plain(1)])
+}
+
+fn with_byte(at: usize, byte: u8) -> Vec<u8> {
+    let mut listing = sketch(A);
+    listing[at] = byte;
+    listing
+}
+
+#[test]
+fn rows_of_the_listing() {
+    let cases: &[(Vec<u8>, u64, u64)] = &[
+        (vec![], 2, 0),
+        (b"ORD\x01\x00\x01".to_vec(), 2, 0),
+        (with_byte(0, b'o'), 3, 0),
+        (with_byte(2, b'E'), 3, 0),
+        (with_byte(3, 2), 4, 0),
+        (with_byte(4, 1), 4, 0),
+        (with_byte(5, 0), 5, 0),
+        (with_byte(5, 17), 5, 0),
+        (with_byte(6, 129), 6, 0),
+        (with_byte(6, 3), 7, 0),
+        (with_byte(6, 5), 7, 0),
+        (sketch(A)[..30].to_vec(), 7, 0),
+        ([sketch(A), vec![0]].concat(), 7, 0),
+        (with_byte(7, 2), 8, 0),
+        (with_byte(5, 1), 8, 2),
+        (with_node(5, 0, NONE, NONE), 9, 1),
+        (with_node(0, 1, NONE, NONE), 10, 1),
+        (with_node(4, 256, NONE, NONE), 10, 1),
+        (with_node(1, 1, 3, NONE), 11, 1),
+        (with_node(1, 1, 254, NONE), 11, 1),
+        (with_node(1, 1, 2, NONE), 11, 1),
+        (with_node(1, 1, 0, 2), 11, 1),
+        (with_node(1, 1, NONE, 3), 11, 1),
+        (with_node(1, 1, NONE, 0), 12, 1),
+        (with_node(1, 1, 1, 0), 12, 1),
+        (with_node(1, 1, 1, 1), 12, 1),
+    ];
+    for (listing, number, place) in cases {
+        assert_eq!(read(listing), refused(*number, *place), "{listing:?}");
+        assert_eq!(judge(1, listing, &mut []), refused(*number, *place), "{listing:?}");
+        assert_eq!(write(listing, &[9], &mut []), refused(*number, *place), "{listing:?}");
+    }
+}
+
+#[test]
+fn good_at_the_edge() {
+    for listing in [with_byte(5, 16), with_node(1, 65535, 0, 1), with_node(2, 0, 1, NONE), b"ORD\x01\x00\x01\x00".to_vec()] {
+        assert!(read(&listing).is_ok(), "{listing:?}");
+    }
+}
+
+#[test]
+fn question_comes_first() {
+    for question in [0, 5, 257, 1 << 32 | 1, u64::MAX] {
+        assert_eq!(judge(question, &[], &mut []), refused(1, 0));
+        assert_eq!(judge_patch(question, &[], &[9], &mut []), refused(1, 0));
+        assert_eq!(propose(question, &[], &mut []), refused(1, 0));
+    }
+    assert_eq!(judge(4, &[], &mut []), refused(2, 0));
+}
+
+#[test]
+fn nodes_are_tried_one_after_the_other() {
+    // node 0 breaks 12, node 1 breaks 8
+    let mut listing = sketch("p p");
+    listing[7 + 4] = NONE;
+    listing[7 + 5] = 0;
+    listing[13] = 1;
+    assert_eq!(read(&listing), refused(12, 0));
+    // node 0 leads to a node whose routine is not that of node 0, whatever rule 8 will say of it
+    listing[7 + 4] = 1;
+    listing[7 + 5] = NONE;
+    assert_eq!(read(&listing), refused(11, 0));
+}
+
+#[test]
+fn rows_of_the_map() {
+    let listing = sketch(A);
+    let cases: &[(&[u8], u64, u64)] = &[(&[0, 0, 0], 13, 0), (&[9; 5], 13, 0), (&[0, 2, 0, 3], 14, 1), (&[1, 1, 1, 255], 14, 3)];
+    for &(map, number, place) in cases {
+        assert_eq!(judge_patch(1, &listing, map, &mut []), refused(number, place), "{map:?}");
+        assert_eq!(write(&listing, map, &mut []), refused(number, place), "{map:?}");
+    }
+    let (many, map) = (sketch(&"p ".repeat(65)), [1; 65]);
+    assert_eq!(judge_patch(1, &many, &map, &mut []), refused(15, 0));
+    assert_eq!(write(&many, &map, &mut []), refused(15, 0));
+    assert_eq!(write(&many, &[&[0; 2], &map[..63]].concat(), &mut [0; 775]), Ok(775));
+}
+
+#[test]
+fn lent_buffers() {
+    let listing = sketch(A);
+    assert_eq!(judge(3, &listing, &mut [0; 257]), refused(16, 0));
+    assert_eq!(judge_patch(3, &listing, &[0; 4], &mut [0; 257]), refused(16, 0));
+    assert_eq!(propose(3, &listing, &mut [0; 3]), refused(16, 0));
+    assert_eq!(write(&listing, &[0; 4], &mut [0; 30]), refused(16, 0));
+    assert_eq!(write(&listing, &[0, 0, 0, 1], &mut [0; 36]), refused(16, 0));
+}
+
+#[test]
+fn too_many_places_before_too_little_room() {
+    // every node but the last is the first of a failing pair
+    let listing = sketch(&"w0 ".repeat(66));
+    assert_eq!(propose(2, &listing, &mut []), refused(15, 0));
+    assert_eq!(propose(2, &sketch(&"w0 ".repeat(64)), &mut []), refused(16, 0));
+    assert_eq!(propose(2, &sketch(&"w0 ".repeat(64)), &mut [0; 64]), Ok(63));
+}
