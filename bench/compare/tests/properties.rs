@@ -1,0 +1,142 @@
+//! What document 01 says of the services together, tried on random listings.
+
+use inputs::{random_listing, Random};
+use nyekushiro::{
+    chain_pairs, judge, judge_patch, propose, read, write, Answer, Question, Refusal, CHAIN_BUFFER, LISTING_BUFFER,
+};
+
+const LISTINGS: usize = 4000;
+
+/// Calls `check` with random listings, each with a random map that `write` takes, and every question.
+fn on_random_listings(seed: u64, check: impl Fn(Question, &[u8], &[u8])) {
+    let mut random = Random::seeded(seed);
+    for _ in 0..LISTINGS {
+        let most = random.one_of(&[6, 12, 12, 40, 128]);
+        let nodes = random.below(most + 1);
+        let listing = random_listing(&mut random, nodes);
+        let mut map = vec![0; nodes];
+        for _ in 0..random.below((128 - nodes).min(nodes) + 1) {
+            map[random.below(nodes)] = 1;
+        }
+        for question in Question::ALL {
+            check(question, &listing, &map);
+        }
+    }
+}
+
+fn judged(question: Question, listing: &[u8], map: &[u8]) -> (Answer, [u8; CHAIN_BUFFER]) {
+    let mut chain = [0; CHAIN_BUFFER];
+    (judge_patch(question, listing, map, &mut chain).unwrap(), chain)
+}
+
+fn written(listing: &[u8], map: &[u8]) -> Vec<u8> {
+    let mut out = [0; LISTING_BUFFER];
+    let length = write(listing, map, &mut out).unwrap();
+    out[..length].to_vec()
+}
+
+#[test]
+fn proposal_is_accepted() {
+    on_random_listings(11, |question, listing, _| {
+        let mut map = vec![7; listing[6] as usize];
+        match propose(question, listing, &mut map) {
+            Ok(places) => {
+                assert_eq!(places, map.iter().filter(|&&byte| byte == 1).count());
+                assert_eq!(judged(question, listing, &map).0, Answer::Robust);
+            }
+            Err(refusal) => assert_eq!(refusal, Refusal { number: 15, place: 0 }),
+        }
+    });
+}
+
+#[test]
+fn proposal_is_empty_exactly_for_a_robust_listing() {
+    on_random_listings(12, |question, listing, _| {
+        let mut map = vec![7; listing[6] as usize];
+        let answer = judge(question, listing, &mut [0; CHAIN_BUFFER]).unwrap();
+        match propose(question, listing, &mut map) {
+            Ok(places) => assert_eq!(places == 0, answer == Answer::Robust),
+            Err(_) => assert_ne!(answer, Answer::Robust),
+        }
+        // the first failing pair has the smallest first node
+        if let Answer::Open { first, .. } = answer {
+            if map[0] != 7 {
+                assert_eq!(map.iter().position(|&byte| byte == 1), Some(first));
+            }
+        }
+    });
+}
+
+#[test]
+fn more_places_are_accepted_where_fewer_are() {
+    on_random_listings(13, |question, listing, map| {
+        let nodes = listing[6] as usize;
+        let mut fewer = vec![0; nodes];
+        if propose(question, listing, &mut fewer).is_err() {
+            return;
+        }
+        let more: Vec<u8> = fewer.iter().zip(map).map(|(one, other)| one | other).collect();
+        if nodes + more.iter().filter(|&&byte| byte == 1).count() <= 128 {
+            assert_eq!(judged(question, listing, &more).0, Answer::Robust);
+        }
+    });
+}
+
+#[test]
+fn written_listing_is_judged_alike() {
+    on_random_listings(14, |question, listing, map| {
+        let mut chain = [0; CHAIN_BUFFER];
+        let answer = judge(question, &written(listing, map), &mut chain).unwrap();
+        assert_eq!((answer, chain), judged(question, listing, map));
+    });
+}
+
+#[test]
+fn written_listing_reads_back() {
+    on_random_listings(15, |_, listing, map| {
+        let out = written(listing, map);
+        let (old, new) = (read(listing).unwrap(), read(&out).unwrap());
+        assert_eq!((new.nodes, new.routines), (old.nodes + map.iter().filter(|&&byte| byte == 1).count(), old.routines));
+        let record = |bytes: &[u8], node: usize| bytes[7 + 6 * node..13 + 6 * node].to_vec();
+        let mut fence = old.nodes;
+        for node in 0..old.nodes {
+            let (before, after) = (record(listing, node), record(&out, node));
+            assert_eq!(before[..4], after[..4]);
+            if map[node] == 0 {
+                assert_eq!(before[4..], after[4..]);
+            } else {
+                assert_eq!(after[4..], [fence as u8, 255]);
+                assert_eq!(record(&out, fence), [before[0], 4, 0, 0, before[4], before[5]]);
+                fence += 1;
+            }
+        }
+    });
+}
+
+#[test]
+fn empty_map_changes_nothing() {
+    on_random_listings(16, |question, listing, _| {
+        let map = vec![0; listing[6] as usize];
+        let mut chain = [0; CHAIN_BUFFER];
+        assert_eq!((judge(question, listing, &mut chain).unwrap(), chain), judged(question, listing, &map));
+        assert_eq!(written(listing, &map), listing);
+    });
+}
+
+#[test]
+fn chain_is_a_chain() {
+    on_random_listings(17, |question, listing, map| {
+        let (Answer::Open { first, second, count }, chain) = judged(question, listing, map) else {
+            return;
+        };
+        let pairs: Vec<(usize, usize)> = chain_pairs(&chain, count).collect();
+        assert_eq!(pairs[0], (first, second));
+        assert!((2..=listing[6] as usize + 1).contains(&count));
+        let location = |node: usize| u16::from_le_bytes([listing[9 + 6 * node], listing[10 + 6 * node]]);
+        for (at, pair) in pairs.iter().enumerate() {
+            assert!(!pairs[..at].contains(pair), "all different");
+            let (end, next) = (location(pair.1), location(pairs[(at + 1) % count].0));
+            assert!(end == 0 || next == 0 || end == next, "each joined to the next, and the last to the first");
+        }
+    });
+}
