@@ -6,10 +6,12 @@ mod calls;
 mod damage;
 mod listings;
 mod random;
+mod shapes;
 mod sketch;
 
 pub use calls::Call;
 pub use damage::damaged;
-pub use listings::{lonely_line, random_listing, ring, tiny_listing};
+pub use listings::{random_listing, tiny_listing};
 pub use random::Random;
+pub use shapes::{Shape, SHAPES};
 pub use sketch::{bytes, sketch, Record, NONE};

@@ -3,11 +3,11 @@
 use crate::random::Random;
 use crate::sketch::{bytes, Record, NONE};
 
-const PLAIN: u8 = 0;
-const READ: u8 = 1;
-const WRITE: u8 = 2;
-const RMW: u8 = 3;
-const FENCE: u8 = 4;
+pub const PLAIN: u8 = 0;
+pub const READ: u8 = 1;
+pub const WRITE: u8 = 2;
+pub const RMW: u8 = 3;
+pub const FENCE: u8 = 4;
 
 /// How the nodes of a routine lead to each other.
 #[derive(Clone, Copy)]
@@ -55,6 +55,11 @@ pub fn tiny_listing(random: &mut Random) -> Vec<u8> {
             return listing;
         }
     }
+}
+
+/// A good listing of four routines with loops and every kind.
+pub fn woven(random: &mut Random, nodes: usize) -> Vec<u8> {
+    listing(random, nodes, 4, Links::Loops)
 }
 
 fn listing(random: &mut Random, nodes: usize, routines: usize, links: Links) -> Vec<u8> {

@@ -1,0 +1,48 @@
+/* Case A from C: judge a listing, ask for a patch, write the patched listing, judge it again. */
+#include "nyekushiro.h"
+
+#include <stdio.h>
+
+static void say(nyekushiro_answer answer, const uint8_t *chain)
+{
+    if (answer.kind == NYEKUSHIRO_REFUSED) {
+        printf("REFUSED %llu %llu\n", (unsigned long long)answer.first, (unsigned long long)answer.second);
+    } else if (answer.kind == NYEKUSHIRO_ROBUST) {
+        printf("ROBUST\n");
+    } else {
+        printf("OPEN %llu %llu %llu", (unsigned long long)answer.first, (unsigned long long)answer.second,
+               (unsigned long long)answer.count);
+        for (uint64_t pair = 0; pair < answer.count; pair++)
+            printf(" %d-%d", chain[2 * pair], chain[2 * pair + 1]);
+        printf("\n");
+    }
+}
+
+int main(void)
+{
+    /* 0 write x, 1 read y; 2 write y, 3 read x */
+    const uint8_t listing[31] = {
+        0x4F, 0x52, 0x44, 1, 0, 2, 4,
+        0, 2, 1, 0, 1, 255,
+        0, 1, 2, 0, 255, 255,
+        1, 2, 2, 0, 3, 255,
+        1, 1, 1, 0, 255, 255,
+    };
+    uint8_t chain[NYEKUSHIRO_CHAIN_BUFFER] = {0};
+    uint8_t map[NYEKUSHIRO_MAP_BUFFER] = {0};
+    uint8_t patched[NYEKUSHIRO_LISTING_BUFFER] = {0};
+
+    nyekushiro_answer size = nyekushiro_read(listing, sizeof listing);
+    printf("%llu nodes, %llu routines\n", (unsigned long long)size.first, (unsigned long long)size.second);
+    say(nyekushiro_judge(NYEKUSHIRO_SC_ON_X86, listing, sizeof listing, chain, sizeof chain), chain);
+    say(nyekushiro_judge(5, listing, sizeof listing, chain, sizeof chain), chain);
+
+    nyekushiro_answer proposal = nyekushiro_propose(NYEKUSHIRO_SC_ON_X86, listing, sizeof listing, map, sizeof map);
+    printf("%llu places: %d %d %d %d\n", (unsigned long long)proposal.count, map[0], map[1], map[2], map[3]);
+    say(nyekushiro_judge_patch(NYEKUSHIRO_SC_ON_X86, listing, sizeof listing, map, 4, chain, sizeof chain), chain);
+
+    nyekushiro_answer written = nyekushiro_write(listing, sizeof listing, map, 4, patched, sizeof patched);
+    printf("%llu bytes written\n", (unsigned long long)written.count);
+    say(nyekushiro_judge(NYEKUSHIRO_SC_ON_X86, patched, written.count, chain, sizeof chain), chain);
+    return 0;
+}

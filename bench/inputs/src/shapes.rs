@@ -1,0 +1,61 @@
+//! Listings of one shape and any size, for timings.
+
+use crate::listings::{woven, FENCE, READ, RMW, WRITE};
+use crate::random::Random;
+use crate::sketch::{bytes, Record, NONE};
+
+/// A shape's name, and a listing of it with this many nodes.
+pub type Shape = (&'static str, fn(&mut Random, usize) -> Vec<u8>);
+
+/// Every shape asks something else of a judge.
+pub const SHAPES: [Shape; 5] = [
+    // sixteen straight routines over few cells: most pairs fail, the first at once
+    ("lines", |random, nodes| lines(random, nodes, false)),
+    // the same with a fence after each access: no pair fails, and all must be looked at
+    ("fenced", |random, nodes| lines(random, nodes, true)),
+    // pieces of two nodes around as many cells: the longest chains
+    ("ring", |_, nodes| ring_of_pieces(nodes)),
+    // one straight routine in which no two accesses meet: every pair wants order, and none lies on a chain
+    ("lonely", lonely),
+    // branches, loops, fences, RMWs and unknown locations
+    ("woven", woven),
+];
+
+fn lines(random: &mut Random, nodes: usize, fenced: bool) -> Vec<u8> {
+    let size = nodes.div_ceil(16).max(2);
+    let records: Vec<Record> = (0..nodes)
+        .map(|node| {
+            let last = (node + 1) % size == 0 || node + 1 == nodes;
+            let access = !fenced || node % size % 2 == 0;
+            Record {
+                routine: (node / size) as u8,
+                kind: if access { random.one_of(&[READ, WRITE]) } else { FENCE },
+                location: if access { random.from_to(1, 6) as u16 } else { 0 },
+                first: if last { NONE } else { node as u8 + 1 },
+                second: NONE,
+            }
+        })
+        .collect();
+    bytes(16, &records)
+}
+
+fn ring_of_pieces(nodes: usize) -> Vec<u8> {
+    let records: Vec<Record> = (0..nodes)
+        .map(|node| {
+            let cell = node.div_ceil(2) % (nodes / 2) + 1;
+            let (kind, first) = if node % 2 == 0 { (WRITE, node as u8 + 1) } else { (READ, NONE) };
+            Record { routine: 0, kind, location: cell as u16, first, second: NONE }
+        })
+        .collect();
+    bytes(1, &records)
+}
+
+fn lonely(random: &mut Random, nodes: usize) -> Vec<u8> {
+    let records: Vec<Record> = (0..nodes)
+        .map(|node| {
+            let first = if node + 1 < nodes { node as u8 + 1 } else { NONE };
+            Record { routine: 0, kind: random.one_of(&[READ, WRITE, RMW]), location: node as u16 + 1, first, second: NONE }
+        })
+        .collect();
+    bytes(1, &records)
+}
