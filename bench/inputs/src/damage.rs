@@ -21,13 +21,14 @@ pub fn damaged(random: &mut Random, mut listing: Vec<u8>) -> Vec<u8> {
         8 => listing.extend((0..random.from_to(1, 13)).map(|_| 0)),
         9.. if nodes > 0 => {
             let record = 7 + 6 * random.below(nodes);
-            match random.below(7) {
+            match random.below(8) {
                 0 => listing[record] = random.one_of(&[0, 1, 15, 16, 255]),
                 1 => listing[record + 1] = random.one_of(&[0, 1, 4, 5, 255]),
                 2 => listing[record + random.from_to(2, 3)] = random.byte(),
                 3 => listing[record + random.from_to(4, 5)] = random.below(nodes) as u8,
                 4 => listing[record + random.from_to(4, 5)] = random.one_of(&[nodes as u8, 127, 128, 254]),
                 5 => listing[record + 4] = 255,
+                6 => listing[record + 5] = listing[record + 4],
                 _ => listing.swap(record + 4, record + 5),
             }
         }
