@@ -1,7 +1,7 @@
 //! `timing`: how long the proved services take beside the straightforward ones, on the same listings and this machine.
 //!
 //! A hundred full listings, twenty of each shape, each under every question. The lent buffer is cleared before every call, on
-//! both sides and within the time taken. A figure is the mean a call of the fastest of several rounds.
+//! both sides and within the time taken.
 
 use std::hint::black_box;
 use std::time::{Duration, Instant};
@@ -97,19 +97,20 @@ fn must_agree(service: Service, calls: &[Call]) {
     }
 }
 
-/// Microseconds a call.
+/// Microseconds a call: the mean of each call's fastest time, so that what else the machine does counts little.
 fn mean(service: Service, side: Side, calls: &[Call]) -> f64 {
     let mut lent = vec![0; calls.iter().map(|call| service.room(call)).max().unwrap_or(0)];
-    let (start, mut rounds, mut fastest) = (Instant::now(), 0, Duration::MAX);
+    let mut fastest = vec![Duration::MAX; calls.len()];
+    let (start, mut rounds) = (Instant::now(), 0);
     while rounds == 0 || start.elapsed() < PATIENCE {
-        let round = Instant::now();
-        for call in calls {
+        for (call, fastest) in calls.iter().zip(&mut fastest) {
             let lent = &mut lent[..service.room(call)];
+            let begun = Instant::now();
             lent.fill(0);
             black_box(service.ask(side, black_box(call), lent));
+            *fastest = begun.elapsed().min(*fastest);
         }
-        fastest = fastest.min(round.elapsed());
         rounds += 1;
     }
-    fastest.as_secs_f64() * 1e6 / calls.len() as f64
+    fastest.iter().sum::<Duration>().as_secs_f64() * 1e6 / calls.len() as f64
 }
