@@ -70,7 +70,7 @@ fn print_row(name: &str, shape: &str, [proved, plain, proved_small, plain_small]
 /// The listings of a shape under every question. With places, listing and fences together have `size` nodes.
 fn calls(shape: Shape, size: usize, one_place_in: usize) -> Vec<Call> {
     let mut random = Random::seeded(SEED);
-    let places = if one_place_in == 0 { 0 } else { size / one_place_in };
+    let places = size.checked_div(one_place_in).unwrap_or(0);
     let nodes = size - places;
     let mut calls = Vec::new();
     for _ in 0..LISTINGS_A_SHAPE {

@@ -71,13 +71,15 @@ fn proposal_is_empty_exactly_for_a_robust_listing() {
 fn more_places_are_accepted_where_fewer_are() {
     on_random_listings(13, |question, listing, map| {
         let nodes = listing[6] as usize;
-        let mut fewer = vec![0; nodes];
-        if propose(question, listing, &mut fewer).is_err() {
-            return;
-        }
-        let more: Vec<u8> = fewer.iter().zip(map).map(|(one, other)| one | other).collect();
-        if nodes + more.iter().filter(|&&byte| byte == 1).count() <= 128 {
-            assert_eq!(judged(question, listing, &more).0, Answer::Robust);
+        let mut proposal = vec![0; nodes];
+        let proposed = propose(question, listing, &mut proposal).is_ok();
+        let other: Vec<u8> = map.iter().rev().copied().collect();
+        for fewer in [map, &proposal] {
+            let accepted = (proposed || fewer == map) && judged(question, listing, fewer).0 == Answer::Robust;
+            let more: Vec<u8> = fewer.iter().zip(&other).map(|(one, other)| one | other).collect();
+            if accepted && nodes + more.iter().filter(|&&byte| byte == 1).count() <= 128 {
+                assert_eq!(judged(question, listing, &more).0, Answer::Robust);
+            }
         }
     });
 }
@@ -99,10 +101,10 @@ fn written_listing_reads_back() {
         assert_eq!((new.nodes, new.routines), (old.nodes + map.iter().filter(|&&byte| byte == 1).count(), old.routines));
         let record = |bytes: &[u8], node: usize| bytes[7 + 6 * node..13 + 6 * node].to_vec();
         let mut fence = old.nodes;
-        for node in 0..old.nodes {
+        for (node, &place) in map.iter().enumerate() {
             let (before, after) = (record(listing, node), record(&out, node));
             assert_eq!(before[..4], after[..4]);
-            if map[node] == 0 {
+            if place == 0 {
                 assert_eq!(before[4..], after[4..]);
             } else {
                 assert_eq!(after[4..], [fence as u8, 255]);

@@ -6,6 +6,7 @@ mod calls;
 mod damage;
 mod listings;
 mod random;
+mod rehearsed;
 mod shapes;
 mod sketch;
 
@@ -13,5 +14,6 @@ pub use calls::Call;
 pub use damage::damaged;
 pub use listings::{random_listing, tiny_listing};
 pub use random::Random;
+pub use rehearsed::{Case, CASES};
 pub use shapes::{Shape, SHAPES};
 pub use sketch::{bytes, sketch, Record, NONE};

@@ -26,7 +26,7 @@ fn lines(random: &mut Random, nodes: usize, fenced: bool) -> Vec<u8> {
     let records: Vec<Record> = (0..nodes)
         .map(|node| {
             let last = (node + 1) % size == 0 || node + 1 == nodes;
-            let access = !fenced || node % size % 2 == 0;
+            let access = !fenced || node % size % 2 != 1;
             Record {
                 routine: (node / size) as u8,
                 kind: if access { random.one_of(&[READ, WRITE]) } else { FENCE },

@@ -70,7 +70,7 @@ fn node(routines: u8, records: &[&[u8]], number: usize) -> Result<Node, Refusal>
     }
     let (first, second) = (record[4], record[5]);
     for successor in [first, second] {
-        if successor != NONE && !records.get(successor as usize).is_some_and(|other| other[0] == routine) {
+        if successor != NONE && records.get(successor as usize).is_none_or(|other| other[0] != routine) {
             return refuse(11, number);
         }
     }
