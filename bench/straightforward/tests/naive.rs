@@ -103,7 +103,7 @@ impl<'a> Tiny<'a> {
     fn shown_chain(&self, pairs: &[Pair], start: Pair) -> Option<Vec<Pair>> {
         let mut best: Option<Vec<Pair>> = None;
         self.chains(pairs, &mut vec![start], self.records.len() + 1, &mut |chain| {
-            if best.as_ref().map_or(true, |best| (chain.len(), chain) < (best.len(), &best[..])) {
+            if best.as_ref().is_none_or(|best| (chain.len(), chain) < (best.len(), &best[..])) {
                 best = Some(chain.to_vec());
             }
         });
@@ -169,7 +169,7 @@ fn judged(question: u64, listing: &[u8], map: &[u8]) -> Option<Vec<Pair>> {
 fn verdict_chain_and_proposal_by_trying_everything() {
     let mut random = Random::seeded(1);
     let (mut open, mut long) = (0, 0);
-    for _ in 0..6000 {
+    for _ in 0..20000 {
         let listing = tiny_listing(&mut random);
         let nodes = listing[6] as usize;
         for question in 1..=4 {
@@ -183,7 +183,7 @@ fn verdict_chain_and_proposal_by_trying_everything() {
             long += failing.iter().any(|chain| chain.len() > 2) as usize;
         }
     }
-    assert!(open > 2000 && long > 100, "too few open listings ({open}) or long chains ({long}) to mean anything");
+    assert!(open > 8000 && long > 400, "too few open listings ({open}) or long chains ({long}) to mean anything");
 }
 
 #[test]
