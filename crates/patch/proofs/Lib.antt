@@ -1,0 +1,2 @@
+pub mod MapRules
+pub mod WriteRules

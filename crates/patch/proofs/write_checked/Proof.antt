@@ -1,0 +1,57 @@
+-- `patch::write_checked` meets its contract. Assumes nothing.
+use borrow.Author.Needs.{needs}
+use mathlib.Core.Path.{_≡_, refl}
+use Prim.Native.Nat.{_≤_, _<_}
+use native.Mathlib.Omega.{arith}
+use denote.Ref.{now}
+use lib.ListN.{length}
+use Rattle.patch.specs.Patching.{writtenLength}
+use Rattle.patch.proofs.WriteRules.{too-short, written}
+use Rattle.patch.proofs.write_checked.Statement.{statement}
+use Rattle.patch.proofs.write_checked.Tie as tie
+
+node-count-requires : tie.Need-node-count-requires
+node-count-requires c κs = search needs
+
+places-requires : tie.Need-places-requires
+places-requires c κs = search needs
+
+add-nodes : tie.Need-add-nodes
+add-nodes c = search needs
+
+mul-length : tie.Need-mul-length
+mul-length c = search needs
+
+add-length : tie.Need-add-length
+add-length c = search needs
+
+returns : tie.Need-returns
+returns c =
+    let a = c .before .before .before .before .before .before .args in
+    too-short (now (a .bytes)) (now (a .map)) (now (a .out)) _ (omega arith) refl
+
+put-patched-requires : tie.Need-put-patched-requires
+put-patched-requires c κs = search needs
+
+same-length : tie.Need-same-length
+same-length c = search needs
+
+returns-2 : tie.Need-returns-2
+returns-2 c =
+    let put = c .before .before in
+    let a = put .before .before .before .before .before .before .before .before .args in
+    written (now (a .bytes)) (now (a .map)) (now (a .out)) _ _ (omega arith) (omega arith) (put .put-patched .ensures .1)
+
+pub write-checked-spec : {M : Type 1} → statement M
+write-checked-spec =
+    tie.close
+    (tie.spec
+    node-count-requires
+    places-requires
+    add-nodes
+    mul-length
+    add-length
+    returns
+    put-patched-requires
+    same-length
+    returns-2)

@@ -1,0 +1,121 @@
+// Patches: the rules of a map, and writing the patched listing.
+ghost use mathlib.Core.Path.{_≡_};
+ghost use mathlib.Core.List.{_++_};
+ghost use lib.ListN.{length};
+ghost use Rattle.listing.specs.Bytes.{Whole};
+ghost use Rattle.listing.specs.Rules.{firstOf};
+ghost use Rattle.verdict.specs.Judging.{bufferRules};
+ghost use Rattle.fencing.specs.Marks.{marksOf, MapFits};
+ghost use Rattle.patch.specs.Patching.{
+  byteRules,
+  mapRules,
+  fitRules,
+  patchRules,
+  checked,
+  wrongAt,
+  writeSays,
+  writtenLength,
+  Writing,
+  WritePromise,
+};
+use listing::Listing;
+use listing::ReadAnswer;
+
+// What checking a listing and its map comes to.
+pub enum Checked {
+    Passed,
+    Refused { number: u8, place: usize },
+}
+
+// What proposing answers.
+pub enum ProposeAnswer {
+    Proposed { places: usize },
+    Refused { number: u8, place: usize },
+}
+
+// What writing answers.
+pub enum WriteAnswer {
+    Written { length: usize },
+    Refused { number: u8, place: usize },
+}
+
+// The index of the first byte over 1, or the map's length.
+fn first_wrong(map: &[u8]) -> usize
+    ensures { λ r. ⌜ firstOf (byteRules 0 (now (map .entry))) ≡ wrongAt (length (now (map .entry))) r ⌝ }
+{
+    let mut i: usize = 0;
+    while i < map.len() {
+        if 1 < map[i] {
+            return i;
+        }
+        i += 1;
+    }
+    i
+}
+
+// Rules 13 to 15.
+fn check_map(bytes: &[u8], map: &[u8]) -> Checked
+    requires { ⌜ Whole (now bytes) ⌝ }
+    ensures { λ r. ⌜ checked r ≡ firstOf (mapRules (now (bytes .entry)) (now (map .entry)) ++ fitRules (now (bytes .entry)) (marksOf (now (map .entry)))) ⌝ }
+{
+    let nodes = listing::node_count(bytes);
+    if map.len() != nodes {
+        return Checked::Refused {
+            number: 13,
+            place: 0,
+        };
+    }
+    let wrong = first_wrong(map);
+    if wrong < map.len() {
+        return Checked::Refused {
+            number: 14,
+            place: wrong,
+        };
+    }
+    let places = fencing::places(map);
+    if Listing::NODES < nodes + places {
+        return Checked::Refused {
+            number: 15,
+            place: 0,
+        };
+    }
+    Checked::Passed
+}
+
+// Rules 2 to 15: the listing's, and then its map's.
+pub fn check(bytes: &[u8], map: &[u8]) -> Checked
+    ensures { λ r. ⌜ checked r ≡ firstOf (patchRules (now (bytes .entry)) (now (map .entry))) ⌝ }
+{
+    match listing::read(bytes) {
+        ReadAnswer::Refused { number, place } => Checked::Refused { number, place },
+        ReadAnswer::Good(_) => check_map(bytes, map),
+    }
+}
+
+// Writing of a listing and a map that passed: rule 16, and then the bytes.
+fn write_checked(bytes: &[u8], map: &[u8], out: &mut [u8]) -> WriteAnswer
+    requires { ⌜ MapFits (now bytes) (now map) ⌝ }
+    ensures { λ r. ⌜ Writing (firstOf (bufferRules (writtenLength (now (bytes .entry)) (now (map .entry))) (now (out .entry))))
+        (now (bytes .entry)) (now (map .entry)) (now (out .entry)) (now (out .exit)) (writeSays r) ⌝ }
+{
+    let nodes = listing::node_count(bytes) + fencing::places(map);
+    let length = Listing::HEADING + Listing::RECORD * nodes;
+    if out.len() < length {
+        return WriteAnswer::Refused {
+            number: 16,
+            place: 0,
+        };
+    }
+    fencing::put_patched(bytes, map, out);
+    WriteAnswer::Written { length }
+}
+
+// The patched listing, at the start of `out`, or the first of the refusals 2 to 16 that applies.
+pub fn write(bytes: &[u8], map: &[u8], out: &mut [u8]) -> WriteAnswer
+    ensures { λ r. ⌜ WritePromise (now (bytes .entry)) (now (map .entry)) (now (out .entry)) (now (out .exit)) (writeSays r) ⌝ }
+{
+    match check(bytes, map) {
+        Checked::Refused { number, place } => WriteAnswer::Refused { number, place },
+        Checked::Passed => write_checked(bytes, map, out),
+    }
+}
