@@ -1,2 +1,5 @@
 pub mod MapRules
 pub mod WriteRules
+pub mod Promises
+pub mod ReadsBack
+pub mod DemandThree

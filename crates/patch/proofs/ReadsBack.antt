@@ -1,0 +1,64 @@
+-- What write writes is admitted and reads back as the old nodes with exactly the fences asked for; and judging it is judging with the map.
+-- Assumes nothing.
+use mathlib.Core.Path.{_≡_, refl, sym, ap, _∙_, subst, subst₂}
+use mathlib.Core.List.{List, _++_}
+use Prim.Native.Nat.{ℕ, _≤_}
+use native.Mathlib.Omega.{arith}
+use lib.ListN.{length, take}
+use Rattle.listing.specs.Node.{Listing}
+use Rattle.listing.specs.Bytes.{nodesOf}
+use Rattle.listing.specs.Rules.{Rule, Refusal, passed, refused, orElse, firstOf}
+use Rattle.listing.specs.Read.{readRules, Admitted}
+use Rattle.listing.specs.Answer.{Answer, done, refusal, filled}
+use Rattle.listing.proofs.Nodes.{nodes-length}
+use Rattle.listing.proofs.Table.{firstOf-append, pass, pass-first}
+use Rattle.order.specs.Patched.{patched}
+use Rattle.fencing.specs.Marks.{marksOf, MapFits}
+use Rattle.fencing.specs.Written.{Written}
+use Rattle.fencing.proofs.Marks.{marks-length}
+use Rattle.fencing.proofs.PatchedFenced.{patched-fenced, fenced-unique}
+use Rattle.fencing.proofs.Written.{written}
+use Rattle.verdict.specs.declared.JudgeAnswer.{JudgeAnswer}
+use Rattle.verdict.specs.Judging.{questionRules, bufferRules, CHAIN, judgeRules, judgeSays, Judging, JudgePromise}
+use Rattle.verdict.proofs.Promise.{says-once, judging-once}
+use Rattle.patch.specs.Patching.{patchRules, judgePatchRules, JudgePatchPromise, writtenLength, writeRules, writtenBytes, Writing, WritePromise}
+use Rattle.patch.proofs.MapRules.{passes-admitted, passes-fits}
+
+-- a length is answered only where nothing is refused
+length-answered : (f : Refusal) (s map old new : List ℕ) (n : ℕ) → Writing f s map old new (done 0 0 n)
+    → (f ≡ passed) × (n ≡ writtenLength s map) × (new ≡ filled (writtenBytes s map) old)
+length-answered passed s map old new n w = (refl, ap (λ (a : Answer). a .count) (w .0), w .1)
+length-answered (refused k p) s map old new n w = let z : _≡_ {A = ℕ} 0 2 = ap (λ (a : Answer). a .kind) (w .0) in absurd (omega arith)
+
+-- one table between two others that lets pass
+skip : (a b c : List Rule) → firstOf b ≡ passed → firstOf (a ++ (b ++ c)) ≡ firstOf (a ++ c)
+skip a b c e = firstOf-append a (b ++ c) ∙ ap (orElse (firstOf a)) (pass b c e) ∙ sym (firstOf-append a c)
+
+module _ (s map old new : List ℕ) (n : ℕ) (w : WritePromise s map old new (done 0 0 n)) where
+  passes : firstOf (patchRules s map) ≡ passed
+  unfolding writeRules
+  passes = pass-first (patchRules s map) (bufferRules (writtenLength s map) old) (length-answered (firstOf (writeRules s map old)) s map old new n w .0)
+
+  -- WHAT IS WRITTEN IS ADMITTED AND READS BACK, node by node and as a whole
+  pub reads-back : Written s map old new n × (nodesOf (take n new) ≡ patched (nodesOf s) (marksOf map))
+  reads-back =
+      let fits = passes-fits s map passes in
+      let a = length-answered (firstOf (writeRules s map old)) s map old new n w in
+      let back = written s map fits old new n (passes-admitted s map passes) (a .1) (a .2) in
+      let mapped : length (marksOf map) ≤ length (nodesOf s) = omega (arith, marks-length map, nodes-length s, fits .each) in
+      (back, fenced-unique (back .fenced) (patched-fenced (nodesOf s) (marksOf map) mapped))
+
+  module _ (q : ℕ) (chain : List ℕ) where
+    same-table : firstOf (judgeRules q (take n new) chain) ≡ firstOf (judgePatchRules q s map chain)
+    unfolding judgeRules judgePatchRules
+    same-table =
+        skip (questionRules q) (readRules (take n new)) (bufferRules CHAIN chain) (reads-back .0 .admitted)
+        ∙ sym (skip (questionRules q) (patchRules s map) (bufferRules CHAIN chain) passes)
+
+    -- JUDGING THE WRITTEN LISTING IS JUDGING WITH THE MAP, chain and refusals included
+    pub judge-written : (new₁ new₂ : List ℕ) (r₁ r₂ : JudgeAnswer)
+        → JudgePatchPromise q s map chain new₁ (judgeSays r₁) → JudgePromise q (take n new) chain new₂ (judgeSays r₂) → (r₁ ≡ r₂) × (new₁ ≡ new₂)
+    judge-written new₁ new₂ r₁ r₂ h k =
+        let k′ = subst₂ (λ (f : Refusal) (L : Listing). Judging f q L chain new₂ (judgeSays r₂)) same-table (reads-back .1) k in
+        let o = judging-once (firstOf (judgePatchRules q s map chain)) q (patched (nodesOf s) (marksOf map)) chain new₁ new₂ (judgeSays r₁) (judgeSays r₂) h k′ in
+        (says-once r₁ r₂ (o .0), o .1)
