@@ -3,3 +3,4 @@ pub mod WriteRules
 pub mod Promises
 pub mod ReadsBack
 pub mod DemandThree
+pub mod Proposal
