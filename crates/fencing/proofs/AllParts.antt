@@ -18,7 +18,7 @@ use Rattle.order.proofs.Patch.{length-patched}
 use Rattle.fencing.proofs.Putting.{bytes-append}
 
 -- a run from the start on fills the buffer
-fills : (out old : List ℕ) → length out ≤ length old → sets old 0 out ≡ filled out old
+pub fills : (out old : List ℕ) → length out ≤ length old → sets old 0 out ≡ filled out old
 fills out old h =
     let at : 0 + length out ≡ length out = omega arith in
     sets-eq out old 0 (omega arith) ∙ ap (λ (k : ℕ). out ++ drop k old) at

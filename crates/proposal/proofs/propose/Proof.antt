@@ -1,0 +1,78 @@
+-- `proposal::propose` meets its contract. Assumes nothing.
+use borrow.Author.Needs.{needs}
+use mathlib.Core.Path.{_≡_, refl, sym, _∙_}
+use mathlib.Core.Bool.{false}
+use native.Mathlib.Omega.{arith}
+use denote.Ref.{now}
+use Rattle.listing.specs.Read.{Admitted}
+use Rattle.listing.proofs.ReadPromise.{read-refused, read-good}
+use Rattle.verdict.specs.Judging.{wrongQuestion}
+use Rattle.proposal.proofs.Offering.{ask-1, ask-2-12, ask-passes, question-right}
+use Rattle.proposal.proofs.propose.Statement.{statement}
+use Rattle.proposal.proofs.propose.Tie as tie
+
+wrong-question-requires : tie.Need-wrong-question-requires
+wrong-question-requires c κs = search needs
+
+returns : tie.Need-returns
+returns c =
+    let w = c .before in
+    let a = w .before .before .before .args in
+    ask-1 (a .question) (now (a .bytes)) (now (a .map)) _ (sym (w .wrong-question .ensures) ∙ c .if1 .taken) refl
+
+right : (c : tie.Else1) → wrongQuestion (c .before .before .before .before .args .question) ≡ false
+right c = sym (c .before .wrong-question .ensures) ∙ c .if1 .left
+
+read-requires : tie.Need-read-requires
+read-requires c κs = search needs
+
+enum-known-number : tie.Need-enum-known-number
+enum-known-number c = search needs
+
+enum-told : tie.Need-enum-told
+enum-told c = search needs
+
+admitted : (c : tie.After-enum-told) → Admitted (now (c .before .before .before .before .before .before .before .args .bytes))
+admitted c = read-good _ _ _ (c .before .before .read .ensures) (c .enum-told .given .1) .0
+
+cast-propose-for : tie.Need-cast-propose-for
+cast-propose-for c =
+    let q = question-right _ (right (c .before .before .before)) in
+    omega arith
+
+propose-for-requires : tie.Need-propose-for-requires
+propose-for-requires c κs =
+    let q = question-right _ (right (c .before .before .before .before)) in
+    (q .0, q .1, admitted (c .before))
+
+returns-2 : tie.Need-returns-2
+returns-2 c =
+    let r = c .before .before .before in
+    let a = r .before .before .before .before .before .args in
+    ask-2-12 (a .question) (now (a .bytes)) (now (a .map)) _ _ _ (right (r .before)) (read-refused _ _ _ _ (r .read .ensures) (c .before .number .given .1)) refl
+
+same-length : tie.Need-same-length
+same-length c = search needs
+
+returns-3 : tie.Need-returns-3
+returns-3 c =
+    let f = c .before .before in
+    let t = f .before .before in
+    let r = t .before .before in
+    let a = r .before .before .before .before .before .args in
+    ask-passes (a .question) (now (a .bytes)) (now (a .map)) _ _ (right (r .before)) (admitted t) (f .propose-for .ensures)
+
+pub propose-spec : {M : Type 1} → statement M
+propose-spec =
+    tie.close
+    (tie.spec
+    wrong-question-requires
+    returns
+    read-requires
+    enum-known-number
+    enum-told
+    cast-propose-for
+    propose-for-requires
+    returns-2
+    same-length
+    returns-3)
