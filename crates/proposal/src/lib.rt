@@ -57,7 +57,8 @@ fn offer(bytes: &[u8], marks: &[u8], map: &mut [u8]) -> ProposeAnswer
 {
     let n = listing::node_count(bytes);
     let places = fencing::places(marks);
-    if Listing::NODES < n + places {
+    let nodes = n + places;
+    if Listing::NODES < nodes {
         return ProposeAnswer::Refused {
             number: 15,
             place: 0,

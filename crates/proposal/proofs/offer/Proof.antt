@@ -13,8 +13,8 @@ node-count-requires c κs = search needs
 places-requires : tie.Need-places-requires
 places-requires c κs = search needs
 
-add-if1 : tie.Need-add-if1
-add-if1 c = search needs
+add-nodes : tie.Need-add-nodes
+add-nodes c = search needs
 
 returns : tie.Need-returns
 returns c =
@@ -46,7 +46,7 @@ offer-spec =
     (tie.spec
     node-count-requires
     places-requires
-    add-if1
+    add-nodes
     returns
     returns-2
     copy-requires
