@@ -1,5 +1,6 @@
 pub mod MapRules
 pub mod WriteRules
+pub mod JudgeRules
 pub mod Promises
 pub mod ReadsBack
 pub mod DemandThree

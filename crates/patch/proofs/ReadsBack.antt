@@ -24,6 +24,14 @@ use Rattle.verdict.proofs.Promise.{says-once, judging-once}
 use Rattle.patch.specs.Patching.{patchRules, judgePatchRules, JudgePatchPromise, writtenLength, writeRules, writtenBytes, Writing, WritePromise}
 use Rattle.patch.proofs.MapRules.{passes-admitted, passes-fits}
 
+-- what was put of a listing and a map that fit reads back, node by node and as a whole
+pub put-reads-back : (s map old new : List ℕ) (n : ℕ) → Admitted s → MapFits s map → n ≡ writtenLength s map → new ≡ filled (writtenBytes s map) old
+    → Written s map old new n × (nodesOf (take n new) ≡ patched (nodesOf s) (marksOf map))
+put-reads-back s map old new n e fits en out =
+    let back = written s map fits old new n e en out in
+    let mapped : length (marksOf map) ≤ length (nodesOf s) = omega (arith, marks-length map, nodes-length s, fits .each) in
+    (back, fenced-unique (back .fenced) (patched-fenced (nodesOf s) (marksOf map) mapped))
+
 -- a length is answered only where nothing is refused
 length-answered : (f : Refusal) (s map old new : List ℕ) (n : ℕ) → Writing f s map old new (done 0 0 n)
     → (f ≡ passed) × (n ≡ writtenLength s map) × (new ≡ filled (writtenBytes s map) old)
@@ -42,11 +50,8 @@ module _ (s map old new : List ℕ) (n : ℕ) (w : WritePromise s map old new (d
   -- WHAT IS WRITTEN IS ADMITTED AND READS BACK, node by node and as a whole
   pub reads-back : Written s map old new n × (nodesOf (take n new) ≡ patched (nodesOf s) (marksOf map))
   reads-back =
-      let fits = passes-fits s map passes in
       let a = length-answered (firstOf (writeRules s map old)) s map old new n w in
-      let back = written s map fits old new n (passes-admitted s map passes) (a .1) (a .2) in
-      let mapped : length (marksOf map) ≤ length (nodesOf s) = omega (arith, marks-length map, nodes-length s, fits .each) in
-      (back, fenced-unique (back .fenced) (patched-fenced (nodesOf s) (marksOf map) mapped))
+      put-reads-back s map old new n (passes-admitted s map passes) (passes-fits s map passes) (a .1) (a .2)
 
   module _ (q : ℕ) (chain : List ℕ) where
     same-table : firstOf (judgeRules q (take n new) chain) ≡ firstOf (judgePatchRules q s map chain)

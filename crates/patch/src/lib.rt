@@ -1,10 +1,13 @@
-// Patches: the rules of a map, and writing the patched listing.
+// Patches: the rules of a map, judging with a map, and writing the patched listing.
 ghost use mathlib.Core.Path.{_≡_};
 ghost use mathlib.Core.List.{_++_};
+ghost use Prim.Native.Nat.{_≤_};
 ghost use lib.ListN.{length};
-ghost use Rattle.listing.specs.Bytes.{Whole};
+ghost use Rattle.listing.specs.Bytes.{nodesOf, Whole};
 ghost use Rattle.listing.specs.Rules.{firstOf};
-ghost use Rattle.verdict.specs.Judging.{bufferRules};
+ghost use Rattle.listing.specs.Read.{Admitted};
+ghost use Rattle.order.specs.Patched.{patched};
+ghost use Rattle.verdict.specs.Judging.{bufferRules, CHAIN, judgeSays, Told};
 ghost use Rattle.fencing.specs.Marks.{marksOf, MapFits};
 ghost use Rattle.patch.specs.Patching.{
   byteRules,
@@ -13,6 +16,7 @@ ghost use Rattle.patch.specs.Patching.{
   patchRules,
   checked,
   wrongAt,
+  JudgePatchPromise,
   writeSays,
   writtenLength,
   Writing,
@@ -20,6 +24,7 @@ ghost use Rattle.patch.specs.Patching.{
 };
 use listing::Listing;
 use listing::ReadAnswer;
+use verdict::JudgeAnswer;
 
 // What checking a listing and its map comes to.
 pub enum Checked {
@@ -89,6 +94,43 @@ pub fn check(bytes: &[u8], map: &[u8]) -> Checked
     match listing::read(bytes) {
         ReadAnswer::Refused { number, place } => Checked::Refused { number, place },
         ReadAnswer::Good(_) => check_map(bytes, map),
+    }
+}
+
+// What the longest listing has: its heading, and a record for every node.
+const LONGEST: usize = Listing::HEADING + Listing::RECORD * Listing::NODES;
+
+// The verdict with a map, of a listing and a map that passed: that of the patched listing.
+fn judge_checked(question: u8, bytes: &[u8], map: &[u8], chain: &mut [u8]) -> JudgeAnswer
+    requires { ⌜ (1 ≤ question) × (question ≤ 4) × Admitted (now bytes) × MapFits (now bytes) (now map) × (CHAIN ≤ length (now chain)) ⌝ }
+    ensures { λ r. ⌜ Told question (patched (nodesOf (now (bytes .entry))) (marksOf (now (map .entry)))) (now (chain .entry)) (now (chain .exit)) (judgeSays r) ⌝ }
+{
+    let mut written = [0u8; LONGEST];
+    let length = fencing::put_patched(bytes, map, &mut written);
+    verdict::decide(question, &written[..length], chain)
+}
+
+// The verdict of the listing with the map's fences put in, in the old node numbers, or the first of the refusals 1 to 16 that applies.
+pub fn judge_patch(question: u64, bytes: &[u8], map: &[u8], chain: &mut [u8]) -> JudgeAnswer
+    ensures { λ r. ⌜ JudgePatchPromise question (now (bytes .entry)) (now (map .entry)) (now (chain .entry)) (now (chain .exit)) (judgeSays r) ⌝ }
+{
+    if verdict::wrong_question(question) {
+        return JudgeAnswer::Refused {
+            number: 1,
+            place: 0,
+        };
+    }
+    match check(bytes, map) {
+        Checked::Refused { number, place } => JudgeAnswer::Refused { number, place },
+        Checked::Passed => {
+            if chain.len() < verdict::CHAIN_BYTES {
+                return JudgeAnswer::Refused {
+                    number: 16,
+                    place: 0,
+                };
+            }
+            judge_checked(question as u8, bytes, map, chain)
+        }
     }
 }
 

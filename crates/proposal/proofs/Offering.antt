@@ -6,8 +6,7 @@ use mathlib.Core.List.{List, [], _∷_}
 use Prim.Native.Nat.{ℕ, zero, suc, _+_, _≤_, _<_}
 use native.Mathlib.Numerals.{add-one}
 use native.Mathlib.Omega.{arith}
-use borrow.Author.Tests.{lt-ltb, le-ltb, leb-true, not-false}
-use lib.Dec.{leb}
+use borrow.Author.Tests.{lt-ltb, le-ltb}
 use lib.ListN.{length, getD, drop, set, drop-of-length-le}
 use lib.Seq.{sets}
 use Rattle.listing.specs.Limits.{NODES}
@@ -16,7 +15,6 @@ use Rattle.listing.specs.Rules.{Refusal, passed, refused, firstOf}
 use Rattle.listing.specs.Read.{readRules, Admitted}
 use Rattle.listing.specs.Answer.{Answer, done, refusal, filled}
 use Rattle.listing.proofs.Table.{pass, stop}
-use Rattle.listing.proofs.Tests.{and-both}
 use Rattle.order.specs.Patched.{Marks, places}
 use Rattle.fencing.specs.Marks.{isMark, marksOf}
 use Rattle.fencing.proofs.Marks.{next}
@@ -73,12 +71,6 @@ module _ (s marks old new : List ℕ) where
         (rw ek, e ∙ ap (λ (l : List ℕ). filled l old) (sym (marks-bytes marks (drawn .bytes))))
 
 -- ── What is refused before there is a map to write ──────────────────────────
-pub question-right : (q : ℕ) → wrongQuestion q ≡ false → (1 ≤ q) × (q ≤ 4)
-unfolding wrongQuestion
-question-right q e =
-    let b = and-both (leb 1 q) (leb q 4) (not-false _ e) in
-    (leb-true 1 q (b .0), leb-true q 4 (b .1))
-
 module _ (q : ℕ) (s old new : List ℕ) where
   asked-as : (r : Answer) (g : Refusal) → firstOf (askRules q s) ≡ g → Proposing g q s old new r → ProposePromise q s old new r
   asked-as r g e p = subst (λ (f : Refusal). Proposing f q s old new r) (sym e) p

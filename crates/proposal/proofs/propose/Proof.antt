@@ -7,7 +7,8 @@ use denote.Ref.{now}
 use Rattle.listing.specs.Read.{Admitted}
 use Rattle.listing.proofs.ReadPromise.{read-refused, read-good}
 use Rattle.verdict.specs.Judging.{wrongQuestion}
-use Rattle.proposal.proofs.Offering.{ask-1, ask-2-12, ask-passes, question-right}
+use Rattle.verdict.proofs.Refusing.{question-in}
+use Rattle.proposal.proofs.Offering.{ask-1, ask-2-12, ask-passes}
 use Rattle.proposal.proofs.propose.Statement.{statement}
 use Rattle.proposal.proofs.propose.Tie as tie
 
@@ -37,12 +38,12 @@ admitted c = read-good _ _ _ (c .before .before .read .ensures) (c .enum-told .g
 
 cast-propose-for : tie.Need-cast-propose-for
 cast-propose-for c =
-    let q = question-right _ (right (c .before .before .before)) in
+    let q = question-in _ (right (c .before .before .before)) in
     omega arith
 
 propose-for-requires : tie.Need-propose-for-requires
 propose-for-requires c κs =
-    let q = question-right _ (right (c .before .before .before .before)) in
+    let q = question-in _ (right (c .before .before .before .before)) in
     (q .0, q .1, admitted (c .before))
 
 returns-2 : tie.Need-returns-2
