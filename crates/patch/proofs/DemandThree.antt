@@ -3,7 +3,7 @@
 -- Assumes nothing.
 use mathlib.Core.Path.{_≡_, refl, sym, ap, _∙_, subst}
 use mathlib.Core.Logic.{_↔_}
-use mathlib.Core.List.{List, _∷_, _++_}
+use mathlib.Core.List.{List, _++_}
 use Prim.Native.Nat.{ℕ, _+_, _≤_, _<_}
 use native.Mathlib.Decide.{decLe}
 use native.Mathlib.Omega.{arith}
@@ -14,7 +14,7 @@ use Rattle.listing.specs.Node.{Listing}
 use Rattle.listing.specs.Bytes.{countF, countN, nodesOf}
 use Rattle.listing.specs.Rules.{Refusal, passed, refused, firstOf}
 use Rattle.listing.specs.Read.{readRules, Admitted}
-use Rattle.listing.specs.Answer.{Answer, done, refusal}
+use Rattle.listing.specs.Answer.{Answer, refusal}
 use Rattle.listing.proofs.Nodes.{nodes-length}
 use Rattle.listing.proofs.Table.{pass, stop, pass-first, pass-then}
 use Rattle.listing.proofs.Valid.{admitted-valid}

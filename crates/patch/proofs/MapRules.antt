@@ -1,24 +1,19 @@
 -- Which row of the tables of a map applies, check by check, and what a listing and a map that pass have.
 -- Assumes nothing.
-use mathlib.Core.Path.{_≡_, sym, ap, _∙_}
-use mathlib.Core.Bool.{Bool, not, cond}
+use mathlib.Core.Path.{_≡_, ap, _∙_}
 use mathlib.Core.List.{List, _∷_, _++_}
 use Prim.Native.Nat.{ℕ, _+_, _≤_, _<_}
 use native.Mathlib.Numerals.{add-one}
-use native.Mathlib.Omega.{arith}
 use lib.ListN.{length, getD, drop, drop-of-length-le}
 use lib.Dec.{ltb}
 use borrow.Author.Tests.{lt-ltb, le-ltb, eq-eqb, ne-eqb, ltb-false, eqb-true, not-false}
-use Rattle.listing.specs.Limits.{NODES}
 use Rattle.listing.specs.Bytes.{countN}
-use Rattle.listing.specs.Rules.{Rule, rule, Refusal, passed, refused, firstOf}
+use Rattle.listing.specs.Rules.{Rule, rule, passed, refused, firstOf}
 use Rattle.listing.specs.Read.{readRules, Admitted}
 use Rattle.listing.proofs.Table.{pass, stop, pass-first, pass-then, none-applies}
 use Rattle.listing.proofs.Reading.{admitted-whole}
-use Rattle.order.specs.Patched.{places}
 use Rattle.fencing.specs.Marks.{marksOf, MapFits}
 use Rattle.fencing.proofs.Marks.{next}
-use Rattle.verdict.proofs.Refusing.{row-applies, row-passes}
 use Rattle.patch.specs.Patching.{byteRules, mapRules, fitRules, patchRules, wrongAt}
 
 -- ── Rule 14, byte by byte ───────────────────────────────────────────────────

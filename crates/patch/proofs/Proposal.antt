@@ -1,7 +1,7 @@
 -- What propose answers and writes: the marks of the failing pairs' first nodes, their number, and a map that judging accepts.
 -- Assumes nothing.
 use mathlib.Core.Path.{_≡_, refl, sym, ap, _∙_, subst}
-use mathlib.Core.Bool.{Bool, true, false, not}
+use mathlib.Core.Bool.{true, false}
 use mathlib.Core.List.{List, [], _∷_, _++_}
 use Prim.Native.Nat.{ℕ, suc, _+_, _≤_}
 use native.Mathlib.Omega.{arith}
@@ -31,7 +31,7 @@ use Rattle.patch.specs.Patching.{
   Proposing,
   ProposePromise,
 }
-use Rattle.patch.specs.Accepting.{otherRules, Spoken, Fits, Accepted, Serves}
+use Rattle.patch.specs.Accepting.{otherRules, Spoken, Fits, Accepted}
 use Rattle.patch.proofs.DemandThree.{serving-accepted}
 
 -- ── The bytes of marks ──────────────────────────────────────────────────────

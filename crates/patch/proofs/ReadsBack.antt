@@ -1,6 +1,6 @@
 -- What write writes is admitted and reads back as the old nodes with exactly the fences asked for; and judging it is judging with the map.
 -- Assumes nothing.
-use mathlib.Core.Path.{_≡_, refl, sym, ap, _∙_, subst, subst₂}
+use mathlib.Core.Path.{_≡_, refl, sym, ap, _∙_, subst₂}
 use mathlib.Core.List.{List, _++_}
 use Prim.Native.Nat.{ℕ, _≤_}
 use native.Mathlib.Omega.{arith}
@@ -9,7 +9,7 @@ use Rattle.listing.specs.Node.{Listing}
 use Rattle.listing.specs.Bytes.{nodesOf}
 use Rattle.listing.specs.Rules.{Rule, Refusal, passed, refused, orElse, firstOf}
 use Rattle.listing.specs.Read.{readRules, Admitted}
-use Rattle.listing.specs.Answer.{Answer, done, refusal, filled}
+use Rattle.listing.specs.Answer.{Answer, done, filled}
 use Rattle.listing.proofs.Nodes.{nodes-length}
 use Rattle.listing.proofs.Table.{firstOf-append, pass, pass-first}
 use Rattle.order.specs.Patched.{patched}

@@ -1,8 +1,8 @@
 -- The marks that are drawn up are the proposed map, and its bytes are 0 or 1.
 -- Assumes nothing.
 use mathlib.Core.Path.{_≡_, refl, sym, ap, _∙_, subst}
-use mathlib.Core.Logic.{_⊎_, inl, inr}
-use mathlib.Core.Bool.{true, false, false≢true}
+use mathlib.Core.Logic.{inl, inr}
+use mathlib.Core.Bool.{true, false≢true}
 use mathlib.Core.List.{List}
 use Prim.Native.Nat.{ℕ, _+_, _≤_, _<_}
 use native.Mathlib.Decide.{decLt}
@@ -14,7 +14,6 @@ use Rattle.listing.specs.Node.{Listing}
 use Rattle.listing.specs.Bytes.{countN, nodesOf}
 use Rattle.listing.proofs.Nodes.{nodes-length}
 use Rattle.order.specs.Verdict.{Fails}
-use Rattle.order.specs.Patched.{marked}
 use Rattle.order.specs.Proposed.{Proposed}
 use Rattle.failing.specs.First.{SecondFailing}
 use Rattle.failing.proofs.Needing.{failing-in}

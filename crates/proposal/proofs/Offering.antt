@@ -15,11 +15,10 @@ use Rattle.listing.specs.Rules.{Refusal, passed, refused, firstOf}
 use Rattle.listing.specs.Read.{readRules, Admitted}
 use Rattle.listing.specs.Answer.{Answer, done, refusal, filled}
 use Rattle.listing.proofs.Table.{pass, stop}
-use Rattle.order.specs.Patched.{Marks, places}
+use Rattle.order.specs.Patched.{places}
 use Rattle.fencing.specs.Marks.{isMark, marksOf}
 use Rattle.fencing.proofs.Marks.{next}
-use Rattle.fencing.proofs.AllParts.{fills}
-use Rattle.verdict.specs.Judging.{wrongQuestion, questionRules, bufferRules}
+use Rattle.verdict.specs.Judging.{wrongQuestion, bufferRules}
 use Rattle.verdict.proofs.Refusing.{row-applies, row-passes, question-stops, question-passes, buffer-stops, buffer-passes}
 use Rattle.patch.specs.Patching.{fitRules, mapByte, mapBytes, askRules, offerRules, Offered, Proposing, ProposePromise}
 use Rattle.proposal.specs.Marking.{Drawn}

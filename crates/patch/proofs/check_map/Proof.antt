@@ -6,7 +6,6 @@ use Prim.Native.Nat.{_+_, _≤_, _<_}
 use native.Mathlib.Omega.{arith}
 use borrow.Author.Tests.{lt-ltb, le-ltb}
 use denote.Ref.{now}
-use lib.ListN.{length}
 use Rattle.listing.specs.Limits.{NODES}
 use Rattle.listing.specs.Bytes.{countN}
 use Rattle.listing.specs.Rules.{firstOf}

@@ -1,7 +1,7 @@
 -- `patch::first_wrong` meets its contract. The loop's invariant: rule 14 is left with the bytes from `i` on. Assumes nothing.
 use borrow.Author.Needs.{needs}
 use mathlib.Core.Path.{_≡_, refl}
-use Prim.Native.Nat.{_-_, _≤_}
+use Prim.Native.Nat.{_-_}
 use denote.Ref.{now}
 use lib.ListN.{length, drop}
 use Rattle.listing.specs.Rules.{firstOf}

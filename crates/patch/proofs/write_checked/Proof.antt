@@ -1,11 +1,8 @@
 -- `patch::write_checked` meets its contract. Assumes nothing.
 use borrow.Author.Needs.{needs}
-use mathlib.Core.Path.{_≡_, refl}
-use Prim.Native.Nat.{_≤_, _<_}
+use mathlib.Core.Path.{refl}
 use native.Mathlib.Omega.{arith}
 use denote.Ref.{now}
-use lib.ListN.{length}
-use Rattle.patch.specs.Patching.{writtenLength}
 use Rattle.patch.proofs.WriteRules.{too-short, written}
 use Rattle.patch.proofs.write_checked.Statement.{statement}
 use Rattle.patch.proofs.write_checked.Tie as tie
