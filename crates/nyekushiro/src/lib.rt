@@ -3,8 +3,11 @@ ghost use mathlib.Core.Path.{_≡_};
 ghost use Rattle.listing.specs.Read.{readSays, readOf};
 ghost use Rattle.listing.specs.Answer as paper;
 ghost use Rattle.verdict.specs.Judging.{judgeSays, JudgePromise};
+ghost use Rattle.patch.specs.Patching.{JudgePatchPromise, proposeSays, ProposePromise, writeSays, WritePromise};
 ghost use Rattle.nyekushiro.specs.Exported.{said};
 use listing::ReadAnswer;
+use patch::ProposeAnswer;
+use patch::WriteAnswer;
 use verdict::JudgeAnswer;
 
 // kind 0: done, or ROBUST; 1: OPEN; 2: REFUSED, with first the number and second the place.
@@ -72,6 +75,24 @@ fn of_judge(answer: JudgeAnswer) -> Answer
     }
 }
 
+fn of_propose(answer: ProposeAnswer) -> Answer
+    ensures { λ r. ⌜ said r ≡ proposeSays answer ⌝ }
+{
+    match answer {
+        ProposeAnswer::Proposed { places } => done(0, 0, places),
+        ProposeAnswer::Refused { number, place } => refused(number, place),
+    }
+}
+
+fn of_write(answer: WriteAnswer) -> Answer
+    ensures { λ r. ⌜ said r ≡ writeSays answer ⌝ }
+{
+    match answer {
+        WriteAnswer::Written { length } => done(0, 0, length),
+        WriteAnswer::Refused { number, place } => refused(number, place),
+    }
+}
+
 #[no_mangle]
 pub extern "C" fn nyekushiro_read(bytes: &[u8]) -> Answer
     ensures { λ r. ⌜ said r ≡ readOf (now (bytes .entry)) ⌝ }
@@ -84,4 +105,30 @@ pub extern "C" fn nyekushiro_judge(question: u64, bytes: &[u8], chain: &mut [u8]
     ensures { λ r. ⌜ JudgePromise question (now (bytes .entry)) (now (chain .entry)) (now (chain .exit)) (said r) ⌝ }
 {
     of_judge(verdict::judge(question, bytes, chain))
+}
+
+#[no_mangle]
+pub extern "C" fn nyekushiro_judge_patch(
+    question: u64,
+    bytes: &[u8],
+    map: &[u8],
+    chain: &mut [u8],
+) -> Answer
+    ensures { λ r. ⌜ JudgePatchPromise question (now (bytes .entry)) (now (map .entry)) (now (chain .entry)) (now (chain .exit)) (said r) ⌝ }
+{
+    of_judge(patch::judge_patch(question, bytes, map, chain))
+}
+
+#[no_mangle]
+pub extern "C" fn nyekushiro_propose(question: u64, bytes: &[u8], map: &mut [u8]) -> Answer
+    ensures { λ r. ⌜ ProposePromise question (now (bytes .entry)) (now (map .entry)) (now (map .exit)) (said r) ⌝ }
+{
+    of_propose(proposal::propose(question, bytes, map))
+}
+
+#[no_mangle]
+pub extern "C" fn nyekushiro_write(bytes: &[u8], map: &[u8], out: &mut [u8]) -> Answer
+    ensures { λ r. ⌜ WritePromise (now (bytes .entry)) (now (map .entry)) (now (out .entry)) (now (out .exit)) (said r) ⌝ }
+{
+    of_write(patch::write(bytes, map, out))
 }

@@ -1,0 +1,35 @@
+-- `nyekushiro::of_propose` meets its contract. Assumes nothing.
+use mathlib.Core.Path.{sym, ap, _∙_}
+use Rattle.patch.specs.Patching.{proposeSays}
+use borrow.Author.Needs.{needs}
+use Rattle.nyekushiro.proofs.of_propose.Statement.{statement}
+use Rattle.nyekushiro.proofs.of_propose.Tie as tie
+
+enum-known-answer : tie.Need-enum-known-answer
+enum-known-answer c = search needs
+
+done-requires : tie.Need-done-requires
+done-requires c κs = search needs
+
+enum-known-answer-2 : tie.Need-enum-known-answer-2
+enum-known-answer-2 c = search needs
+
+refused-requires : tie.Need-refused-requires
+refused-requires c κs = search needs
+
+returns : tie.Need-returns
+returns c = c .done .ensures ∙ ap proposeSays (sym (c .before .before .answer .given .1))
+
+returns-2 : tie.Need-returns-2
+returns-2 c = c .refused .ensures ∙ ap proposeSays (sym (c .before .before .answer2 .given .1))
+
+pub of-propose-spec : {M : Type 1} → statement M
+of-propose-spec =
+    tie.close
+    (tie.spec
+    enum-known-answer
+    done-requires
+    enum-known-answer-2
+    refused-requires
+    returns
+    returns-2)
