@@ -1,5 +1,6 @@
 # Read by ./nyekushiro and by the tests, which set $root: finds the proved programs, proves and builds them where they are
 # missing or older than their crates, and runs them.
+# shellcheck shell=sh disable=SC2154
 
 say() { printf '%s\n' "$*" >&2; }
 
