@@ -1,0 +1,134 @@
+// Answers as lines of text on standard output, the same for every program.
+use libc::STDOUT_FILENO;
+use listing::Listing;
+use verdict::CHAIN_BYTES;
+use verdict::JudgeAnswer;
+
+// A question, the longest listing, and one byte more: an input cut there is still longer than any listing, and so refused by 7 at the latest.
+pub const INPUT: usize = 1 + Listing::HEADING + Listing::RECORD * Listing::NODES + 1;
+
+pub fn text(words: &[u8]) {
+    io::write_all(STDOUT_FILENO, words);
+}
+
+pub fn number(n: usize) {
+    io::print_decimal(STDOUT_FILENO, n as u64);
+}
+
+// A number after a space.
+pub fn next(n: usize) {
+    text(b" ");
+    number(n);
+}
+
+fn refusal(number: u8, place: usize) {
+    text(b"REFUSED");
+    next(number as usize);
+    next(place);
+}
+
+pub fn refused(number: u8, place: usize) {
+    refusal(number, place);
+    text(b"\n");
+}
+
+// The refusal table's words.
+pub fn reason(number: u8) {
+    match number {
+        1 => text(b"question not 1 to 4"),
+        2 => text(b"fewer than 7 bytes"),
+        3 => text(b"mark wrong"),
+        4 => text(b"version not 1"),
+        5 => text(b"F is 0 or over 16"),
+        6 => text(b"N over 128"),
+        7 => text(b"length not 7 + 6N"),
+        8 => text(b"node's routine not below F"),
+        9 => text(b"kind over 4"),
+        10 => text(b"kind 0 or 4 with a location other than 0"),
+        11 => text(b"successor neither 255 nor below N, or in another routine"),
+        12 => text(b"second successor without a first, or not larger than it"),
+        13 => text(b"map length not N"),
+        14 => text(b"map byte not 0 or 1"),
+        15 => text(b"N + places over 128"),
+        _ => text(b"lent output buffer too short"),
+    }
+}
+
+// What a refusal's place is of, where it has one.
+fn place_of(number: u8, place: usize) {
+    if number == 14 {
+        text(b" (index");
+        next(place);
+        text(b")");
+        return;
+    }
+    if number < 8 {
+        return;
+    }
+    if number < 13 {
+        text(b" (node");
+        next(place);
+        text(b")");
+    }
+}
+
+// The refusal line for a person: what the number means, too.
+pub fn explained(number: u8, place: usize) {
+    refusal(number, place);
+    text(b": ");
+    reason(number);
+    place_of(number, place);
+    text(b"\n");
+}
+
+fn pair(a: u8, b: u8) {
+    next(a as usize);
+    text(b"-");
+    number(b as usize);
+}
+
+// The pairs of a chain, as far as the buffer goes.
+fn pairs(chain: &[u8; CHAIN_BYTES], count: usize) {
+    let mut i: usize = 0;
+    while i < count {
+        if CHAIN_BYTES / 2 <= i {
+            return;
+        }
+        pair(chain[2 * i], chain[2 * i + 1]);
+        i += 1;
+    }
+}
+
+// The judge's line.
+pub fn judged(answer: JudgeAnswer, chain: &[u8; CHAIN_BYTES]) {
+    match answer {
+        JudgeAnswer::Robust => text(b"ROBUST\n"),
+        JudgeAnswer::Refused { number, place } => refused(number, place),
+        JudgeAnswer::Open {
+            first,
+            second,
+            count,
+        } => {
+            text(b"OPEN");
+            next(first);
+            next(second);
+            next(count);
+            pairs(chain, count);
+            text(b"\n");
+        }
+    }
+}
+
+// The proposer's line: how many places its map has, and each.
+pub fn proposed(count: usize, map: &[u8]) {
+    text(b"PROPOSED");
+    next(count);
+    let mut i: usize = 0;
+    while i < map.len() {
+        if map[i] == 1 {
+            next(i);
+        }
+        i += 1;
+    }
+    text(b"\n");
+}
