@@ -1,0 +1,180 @@
+// Judging: what the judge answers to each rehearsed listing, one line a question.
+use crate::full;
+use verdict::CHAIN_BYTES;
+
+// What stands before an answer: the case's name and the question.
+fn heading(name: &[u8], question: u64) {
+    say::text(name);
+    say::next(question as usize);
+    say::text(b": ");
+}
+
+fn ask(name: &[u8], question: u64, bytes: &[u8]) {
+    heading(name, question);
+    let mut chain = [0u8; CHAIN_BYTES];
+    let answer = verdict::judge(question, bytes, &mut chain);
+    say::judged(answer, &chain);
+}
+
+// The same with a chain buffer that lacks a byte.
+fn ask_short(name: &[u8], question: u64, bytes: &[u8]) {
+    heading(name, question);
+    let mut chain = [0u8; CHAIN_BYTES];
+    let answer = verdict::judge(question, bytes, &mut chain[1..]);
+    say::judged(answer, &chain);
+}
+
+// A listing under each of the four questions.
+fn case(name: &[u8], bytes: &[u8]) {
+    ask(name, 1, bytes);
+    ask(name, 2, bytes);
+    ask(name, 3, bytes);
+    ask(name, 4, bytes);
+}
+
+// Two routines over the cells x and y.
+fn two_cells() {
+    case(
+        b"B",
+        b"ORD\x01\x00\x02\x04\
+          \x00\x01\x01\x00\x01\xFF\
+          \x00\x02\x02\x00\xFF\xFF\
+          \x01\x01\x02\x00\x03\xFF\
+          \x01\x02\x01\x00\xFF\xFF",
+    );
+    case(
+        b"C",
+        b"ORD\x01\x00\x02\x04\
+          \x00\x02\x01\x00\x01\xFF\
+          \x00\x02\x02\x00\xFF\xFF\
+          \x01\x01\x02\x00\x03\xFF\
+          \x01\x01\x01\x00\xFF\xFF",
+    );
+}
+
+// Two routines with a read-modify-write each.
+fn exchanges() {
+    case(
+        b"G",
+        b"ORD\x01\x00\x02\x06\
+          \x00\x02\x01\x00\x01\xFF\
+          \x00\x03\x03\x00\x02\xFF\
+          \x00\x01\x02\x00\xFF\xFF\
+          \x01\x02\x02\x00\x04\xFF\
+          \x01\x03\x03\x00\x05\xFF\
+          \x01\x01\x01\x00\xFF\xFF",
+    );
+    case(
+        b"F",
+        b"ORD\x01\x00\x02\x06\
+          \x00\x02\x01\x00\x01\xFF\
+          \x00\x03\x01\x00\x02\xFF\
+          \x00\x01\x02\x00\xFF\xFF\
+          \x01\x02\x02\x00\x04\xFF\
+          \x01\x03\x02\x00\x05\xFF\
+          \x01\x01\x01\x00\xFF\xFF",
+    );
+}
+
+// A fence on one branch of two.
+fn branches() {
+    case(
+        b"H",
+        b"ORD\x01\x00\x02\x06\
+          \x00\x02\x01\x00\x01\x02\
+          \x00\x04\x00\x00\x02\xFF\
+          \x00\x01\x02\x00\xFF\xFF\
+          \x01\x02\x02\x00\x04\xFF\
+          \x01\x04\x00\x00\x05\xFF\
+          \x01\x01\x01\x00\xFF\xFF",
+    );
+}
+
+// A block of cells, and one cell in its place; a write to a block that follows itself.
+fn blocks() {
+    case(
+        b"J",
+        b"ORD\x01\x00\x02\x04\
+          \x00\x02\x01\x80\x01\xFF\
+          \x00\x01\x01\x80\xFF\xFF\
+          \x01\x02\x01\x80\x03\xFF\
+          \x01\x01\x01\x80\xFF\xFF",
+    );
+    case(
+        b"J with x",
+        b"ORD\x01\x00\x02\x04\
+          \x00\x02\x01\x00\x01\xFF\
+          \x00\x01\x01\x00\xFF\xFF\
+          \x01\x02\x01\x00\x03\xFF\
+          \x01\x01\x01\x00\xFF\xFF",
+    );
+    case(
+        b"own pairs",
+        b"ORD\x01\x00\x02\x02\
+          \x00\x02\x01\x80\x00\xFF\
+          \x01\x02\x01\x80\x01\xFF",
+    );
+}
+
+// One routine: a loop, two writes, and no node at all.
+fn one_routine() {
+    case(
+        b"K",
+        b"ORD\x01\x00\x01\x02\
+          \x00\x02\x01\x00\x01\xFF\
+          \x00\x01\x02\x00\x00\xFF",
+    );
+    case(
+        b"L",
+        b"ORD\x01\x00\x01\x02\
+          \x00\x02\x00\x00\x01\xFF\
+          \x00\x02\x00\x00\xFF\xFF",
+    );
+    case(b"M", b"ORD\x01\x00\x01\x00");
+}
+
+// Pairs with a neighbour before and one after that close no chain.
+fn neighbours() {
+    case(
+        b"neighbours",
+        b"ORD\x01\x00\x03\x06\
+          \x00\x02\x01\x00\x01\xFF\
+          \x00\x01\x02\x00\xFF\xFF\
+          \x01\x01\x02\x00\x03\xFF\
+          \x01\x01\x03\x00\xFF\xFF\
+          \x02\x01\x04\x00\x05\xFF\
+          \x02\x02\x01\x00\xFF\xFF",
+    );
+}
+
+// As many nodes as a listing may have, and one more.
+fn sizes() {
+    let mut bytes = [0u8; full::LONGEST];
+    full::put_full(&mut bytes, 128);
+    case(b"128 nodes", &bytes);
+    full::put_full(&mut bytes, 129);
+    case(b"129 nodes", &bytes);
+}
+
+// What the judge itself refuses: questions that are none, and a chain buffer of 257 bytes, also where nothing would be written.
+fn refusals(a: &[u8]) {
+    ask(b"A", 0, a);
+    ask(b"A", 5, a);
+    ask(b"A", 18446744073709551615, a);
+    ask_short(b"A with 257 bytes", 1, a);
+    ask_short(b"A with 257 bytes", 4, a);
+    ask_short(b"A with 257 bytes", 5, a);
+    ask_short(b"no listing with 257 bytes", 1, b"ORD");
+}
+
+pub fn judging(a: &[u8]) {
+    case(b"A", a);
+    two_cells();
+    exchanges();
+    branches();
+    blocks();
+    one_routine();
+    neighbours();
+    sizes();
+    refusals(a);
+}
