@@ -1,6 +1,9 @@
 // Answers as lines of text on standard output, the same for every program.
+mod nodes;
+
 use libc::STDOUT_FILENO;
 use listing::Listing;
+pub use nodes::shown;
 use verdict::CHAIN_BYTES;
 use verdict::JudgeAnswer;
 
