@@ -5,13 +5,14 @@ use mathlib.Core.List.{List, _++_}
 use Prim.Native.Nat.{ℕ, _≤_}
 use native.Mathlib.Omega.{arith}
 use lib.ListN.{length, take}
+use borrow.Author.Tests.{ltb-false}
 use Rattle.listing.specs.Node.{Listing}
 use Rattle.listing.specs.Bytes.{nodesOf}
 use Rattle.listing.specs.Rules.{Rule, Refusal, passed, refused, orElse, firstOf}
 use Rattle.listing.specs.Read.{readRules, Admitted}
 use Rattle.listing.specs.Answer.{Answer, done, filled}
 use Rattle.listing.proofs.Nodes.{nodes-length}
-use Rattle.listing.proofs.Table.{firstOf-append, pass, pass-first}
+use Rattle.listing.proofs.Table.{none-applies, firstOf-append, pass, pass-first, pass-then}
 use Rattle.order.specs.Patched.{patched}
 use Rattle.fencing.specs.Marks.{marksOf, MapFits}
 use Rattle.fencing.specs.Written.{Written}
@@ -46,6 +47,15 @@ module _ (s map old new : List ℕ) (n : ℕ) (w : WritePromise s map old new (d
   passes : firstOf (patchRules s map) ≡ passed
   unfolding writeRules
   passes = pass-first (patchRules s map) (bufferRules (writtenLength s map) old) (length-answered (firstOf (writeRules s map old)) s map old new n w .0)
+
+  -- the length lies within the listing buffer
+  pub length-within : n ≤ length old
+  unfolding writeRules
+  length-within =
+      let a = length-answered (firstOf (writeRules s map old)) s map old new n w in
+      let room : writtenLength s map ≤ length old =
+      ltb-false _ _ (none-applies (bufferRules (writtenLength s map) old) (pass-then (patchRules s map) (bufferRules (writtenLength s map) old) (a .0)) .0) in
+      omega (arith, a .1, room)
 
   -- WHAT IS WRITTEN IS ADMITTED AND READS BACK, node by node and as a whole
   pub reads-back : Written s map old new n × (nodesOf (take n new) ≡ patched (nodesOf s) (marksOf map))
