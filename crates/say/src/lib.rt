@@ -7,8 +7,11 @@ pub use nodes::shown;
 use verdict::CHAIN_BYTES;
 use verdict::JudgeAnswer;
 
+// The bytes of the longest listing.
+pub const LONGEST: usize = Listing::HEADING + Listing::RECORD * Listing::NODES;
+
 // A question, the longest listing, and one byte more: an input cut there is still longer than any listing, and so refused by 7 at the latest.
-pub const INPUT: usize = 1 + Listing::HEADING + Listing::RECORD * Listing::NODES + 1;
+pub const INPUT: usize = 1 + LONGEST + 1;
 
 pub fn text(words: &[u8]) {
     io::write_all(STDOUT_FILENO, words);
