@@ -1,6 +1,6 @@
 -- What write writes is admitted and reads back as the old nodes with exactly the fences asked for; and judging it is judging with the map.
 -- Assumes nothing.
-use mathlib.Core.Path.{_≡_, refl, sym, ap, _∙_, subst₂}
+use mathlib.Core.Path.{_≡_, refl, sym, ap, _∙_, subst, subst₂}
 use mathlib.Core.List.{List, _++_}
 use Prim.Native.Nat.{ℕ, _≤_}
 use native.Mathlib.Omega.{arith}
@@ -22,7 +22,9 @@ use Rattle.fencing.proofs.Written.{written}
 use Rattle.verdict.specs.declared.JudgeAnswer.{JudgeAnswer}
 use Rattle.verdict.specs.Judging.{questionRules, bufferRules, CHAIN, judgeRules, judgeSays, Judging, JudgePromise}
 use Rattle.verdict.proofs.Promise.{says-once, judging-once}
-use Rattle.patch.specs.Patching.{patchRules, judgePatchRules, JudgePatchPromise, writtenLength, writeRules, writtenBytes, Writing, WritePromise}
+use Rattle.patch.specs.Patching.{patchRules, judgePatchRules, JudgePatchPromise, writtenLength, writeRules, writtenBytes, writeSays, Writing, WritePromise}
+use Rattle.patch.specs.declared.WriteAnswer.{WriteAnswer}
+use Rattle.patch.specs.declared.WriteAnswer.the-variants as writing
 use Rattle.patch.proofs.MapRules.{passes-admitted, passes-fits}
 
 -- what was put of a listing and a map that fit reads back, node by node and as a whole
@@ -39,6 +41,16 @@ length-answered : (f : Refusal) (s map old new : List ℕ) (n : ℕ) → Writing
 length-answered passed s map old new n w = (refl, ap (λ (a : Answer). a .count) (w .0), w .1)
 length-answered (refused k p) s map old new n w = let z : _≡_ {A = ℕ} 0 2 = ap (λ (a : Answer). a .kind) (w .0) in absurd (omega arith)
 
+-- what a caller that was answered a length learns: it lies within the listing buffer
+pub length-within : (s map old new : List ℕ) (r : WriteAnswer) (n : ℕ) → WritePromise s map old new (writeSays r) → r ≡ writing.Written n → n ≤ length old
+unfolding writeRules
+length-within s map old new r n w is =
+    let told = subst (λ (x : WriteAnswer). WritePromise s map old new (writeSays x)) is w in
+    let a = length-answered (firstOf (writeRules s map old)) s map old new n told in
+    let passing = pass-then (patchRules s map) (bufferRules (writtenLength s map) old) (a .0) in
+    let room : writtenLength s map ≤ length old = ltb-false _ _ (none-applies (bufferRules (writtenLength s map) old) passing .0) in
+    omega (arith, a .1, room)
+
 -- one table between two others that lets pass
 skip : (a b c : List Rule) → firstOf b ≡ passed → firstOf (a ++ (b ++ c)) ≡ firstOf (a ++ c)
 skip a b c e = firstOf-append a (b ++ c) ∙ ap (orElse (firstOf a)) (pass b c e) ∙ sym (firstOf-append a c)
@@ -47,15 +59,6 @@ module _ (s map old new : List ℕ) (n : ℕ) (w : WritePromise s map old new (d
   passes : firstOf (patchRules s map) ≡ passed
   unfolding writeRules
   passes = pass-first (patchRules s map) (bufferRules (writtenLength s map) old) (length-answered (firstOf (writeRules s map old)) s map old new n w .0)
-
-  -- the length lies within the listing buffer
-  pub length-within : n ≤ length old
-  unfolding writeRules
-  length-within =
-      let a = length-answered (firstOf (writeRules s map old)) s map old new n w in
-      let room : writtenLength s map ≤ length old =
-      ltb-false _ _ (none-applies (bufferRules (writtenLength s map) old) (pass-then (patchRules s map) (bufferRules (writtenLength s map) old) (a .0)) .0) in
-      omega (arith, a .1, room)
 
   -- WHAT IS WRITTEN IS ADMITTED AND READS BACK, node by node and as a whole
   pub reads-back : Written s map old new n × (nodesOf (take n new) ≡ patched (nodesOf s) (marksOf map))
