@@ -5,10 +5,8 @@ ghost use Rattle.listing.specs.Limits.{NODES};
 ghost use Rattle.listing.specs.Bytes.{recordAt};
 use listing::Listing;
 
-pub const LONGEST: usize = Listing::HEADING + Listing::RECORD * Listing::NODES;
-
 // 128 writes of unknown cells, each its own successor, under a heading that says n: under questions 2 and 3 each is the first node of a failing pair.
-pub fn put_full(out: &mut [u8; LONGEST], n: u8)
+pub fn put_full(out: &mut [u8; say::LONGEST], n: u8)
     ensures { λ _. ⌜ recordAt NODES ≡ length (now (out .exit)) ⌝ }
 {
     listing::put_heading(&mut *out, 1, n);

@@ -3,7 +3,7 @@ use crate::full;
 use verdict::CHAIN_BYTES;
 
 // What stands before an answer: the case's name and the question.
-fn heading(name: &[u8], question: u64) {
+pub fn heading(name: &[u8], question: u64) {
     say::text(name);
     say::next(question as usize);
     say::text(b": ");
@@ -149,7 +149,7 @@ fn neighbours() {
 
 // As many nodes as a listing may have, and one more.
 fn sizes() {
-    let mut bytes = [0u8; full::LONGEST];
+    let mut bytes = [0u8; say::LONGEST];
     full::put_full(&mut bytes, 128);
     case(b"128 nodes", &bytes);
     full::put_full(&mut bytes, 129);

@@ -1,6 +1,7 @@
 // The rehearsed listings and the sentences under their table: what each service answers, one line a case.
 mod full;
 mod judging;
+mod patching;
 
 fn main() {
     let a = b"ORD\x01\x00\x02\x04\
@@ -9,4 +10,5 @@ fn main() {
       \x01\x02\x02\x00\x03\xFF\
       \x01\x01\x01\x00\xFF\xFF";
     judging::judging(a);
+    patching::patching(a);
 }

@@ -4,6 +4,7 @@ mod nodes;
 use libc::STDOUT_FILENO;
 use listing::Listing;
 pub use nodes::shown;
+use patch::ProposeAnswer;
 use verdict::CHAIN_BYTES;
 use verdict::JudgeAnswer;
 
@@ -125,10 +126,8 @@ pub fn judged(answer: JudgeAnswer, chain: &[u8; CHAIN_BYTES]) {
     }
 }
 
-// The proposer's line: how many places its map has, and each.
-pub fn proposed(count: usize, map: &[u8]) {
-    text(b"PROPOSED");
-    next(count);
+// The places of a map, each after a space.
+fn places(map: &[u8]) {
     let mut i: usize = 0;
     while i < map.len() {
         if map[i] == 1 {
@@ -136,5 +135,17 @@ pub fn proposed(count: usize, map: &[u8]) {
         }
         i += 1;
     }
-    text(b"\n");
+}
+
+// The proposer's line: how many places its map has, and each.
+pub fn proposed(answer: ProposeAnswer, map: &[u8]) {
+    match answer {
+        ProposeAnswer::Refused { number, place } => refused(number, place),
+        ProposeAnswer::Proposed { places: count } => {
+            text(b"PROPOSED");
+            next(count);
+            places(map);
+            text(b"\n");
+        }
+    }
 }
