@@ -1,13 +1,14 @@
 -- Sets and rows that are filled node by node, over any property and any relation.
 -- Assumes nothing.
-use mathlib.Core.Path.{_≡_, sym, subst}
+use mathlib.Core.Path.{_≡_, refl, sym, subst, _∙_}
 use mathlib.Core.Logic.{_⊎_, inl, inr}
 use mathlib.Core.List.{List}
 use Prim.Native.Nat.{ℕ, _+_, _≤_, _<_}
 use native.Mathlib.Omega.{arith}
-use native.Mathlib.Decide.{decLt}
+use native.Mathlib.Decide.{decLt, ℕ-discrete}
 use Rattle.reach.specs.Rows.{Has, Holds, Members, Blank}
-use Rattle.reach.specs.Touched.{Added}
+use Rattle.reach.specs.Touched.{Added, Poured}
+use Rattle.reach.proofs.Rows.{poured-gives, poured-keeps, poured-brings}
 use Rattle.fails.specs.Growing.{RowGrown, RowsDone}
 
 -- ── A set ───────────────────────────────────────────────────────────────────
@@ -71,6 +72,26 @@ module _ (A : ℕ → ℕ → Type 0) where
       done : (y : ℕ) → y < k + 1 → A a y → Dec (y < k) → Has v a y
       done y m h (yes l) = g .done y l h
       done y m h (no l) = let e : y ≡ k = omega arith in absurd (n (subst (A a) e h))
+
+  -- a row that keeps nothing
+  pub grown-empty : (w : List ℕ) (a n : ℕ) → ((y : ℕ) → A a y → ⊥) → RowGrown A w w a n
+  grown-empty w a n e = record { gives = λ x y l h. inl h; keeps = λ x y l h. h; done = λ y l h. absurd (e y h) }
+
+  -- a row poured over from an earlier one that keeps the same
+  pub grown-copy : (w v : List ℕ) (a k n : ℕ) → n ≤ 128 → k < a → RowsDone A w a n → ((y : ℕ) → A k y → A a y) → ((y : ℕ) → A a y → A k y) → Poured w w v a k → RowGrown A w v a n
+  grown-copy w v a k n small l d f g p = record {
+    gives = λ x y m h. by x y m h (ℕ-discrete x a);
+    keeps = λ x y m h. poured-keeps w w v a k x y p m h;
+    done = λ y m h. poured-brings w w v a k y p (omega arith) (d .whole k y l m (g y h));
+  }
+    where
+      row : (y : ℕ) → y < 128 → Has w a y ⊎ Has w k y → Has w a y ⊎ ((a ≡ a) × (y < n) × A a y)
+      row y m (inl h) = inl h
+      row y m (inr h) = let s = d .sound k y m h in inr (refl, s .1, f y (s .2))
+
+      by : (x y : ℕ) → y < 128 → Has v x y → Dec (x ≡ a) → Has w x y ⊎ ((x ≡ a) × (y < n) × A a y)
+      by x y m h (yes e) = subst (λ (z : ℕ). Has w z y ⊎ ((z ≡ a) × (y < n) × A a y)) (sym e) (row y m (poured-gives w w v a k y p m (subst (λ (z : ℕ). Has v z y) e h)))
+      by x y m h (no e) = inl (sym (p .rest x y m e) ∙ h)
 
   -- ── All rows ────────────────────────────────────────────────────────────────
   pub rows-none : (w : List ℕ) (n : ℕ) → Blank w → RowsDone A w 0 n

@@ -5,8 +5,8 @@ use mathlib.Core.Bool.{Bool, true, false, not}
 use Prim.Native.Nat.{ℕ}
 use lib.Dec.{T}
 use Rattle.listing.specs.Node.{Listing}
-use Rattle.order.specs.Walks.{Access}
-use Rattle.order.specs.Chains.{MayMeet, meets}
+use Rattle.order.specs.Walks.{locAt, Access}
+use Rattle.order.specs.Chains.{overlap}
 use Rattle.reach.specs.Rows.{Tells}
 use Rattle.fails.specs.Failing.{Meeting}
 
@@ -56,10 +56,14 @@ tells {r} b e = subst (λ (x : Bool). Tells x (T b)) (sym e) (of b)
     of true = tt
     of false = λ t. t
 
--- of two accesses the test of their locations tells whether they meet
-pub meeting-told : (L : Listing) (a b : ℕ) {r : Bool} → Access L a → Access L b → r ≡ meets L a b → Tells r (Meeting L a b)
-meeting-told L a b {r} ha hb e = of r (tells (meets L a b) e)
-  where
-    of : (x : Bool) → Tells x (MayMeet L a b) → Tells x (Meeting L a b)
-    of true m = (ha, hb, m)
-    of false n = λ g. n (g .2)
+-- an access at the location x meets what x overlaps
+module _ (L : Listing) (a b : ℕ) {x : ℕ} (e : x ≡ locAt L a) where
+  pub meeting-of : Access L a → Access L b × T (overlap x (locAt L b)) → Meeting L a b
+  meeting-of h g = (h, g .0, subst (λ (z : ℕ). T (overlap z (locAt L b))) e (g .1))
+
+  pub of-meeting : Meeting L a b → Access L b × T (overlap x (locAt L b))
+  of-meeting g = (g .1, subst (λ (z : ℕ). T (overlap z (locAt L b))) (sym e) (g .2))
+
+-- who stands at the same location meets the same
+pub meeting-twin : (L : Listing) (k a y : ℕ) → locAt L k ≡ locAt L a → Access L a → Meeting L k y → Meeting L a y
+meeting-twin L k a y e h g = (h, g .1, subst (λ (z : ℕ). T (overlap z (locAt L y))) e (g .2))

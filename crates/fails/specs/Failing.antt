@@ -1,10 +1,11 @@
 -- What the rows of the failing-pair test keep, relation by relation.
 -- Assumes nothing.
+use mathlib.Core.Path.{_≡_}
 use mathlib.Core.List.{List}
-use Prim.Native.Nat.{ℕ}
+use Prim.Native.Nat.{ℕ, _≤_, _<_}
 use Rattle.listing.specs.Node.{Listing}
 use Rattle.listing.specs.Bytes.{countN, nodesOf}
-use Rattle.order.specs.Walks.{Access, Walk, Pair}
+use Rattle.order.specs.Walks.{locAt, Access, Walk, Pair}
 use Rattle.order.specs.Chains.{MayMeet, Ends, Chain}
 use Rattle.order.specs.Need.{RmwInside, Unbarred}
 use Rattle.reach.specs.Rows.{Holds}
@@ -12,6 +13,12 @@ use Rattle.reach.specs.Rows.{Holds}
 -- two accesses that may meet
 abbrev pub Meeting : Listing → ℕ → ℕ → Type 0
 Meeting L a b = Access L a × Access L b × MayMeet L a b
+
+-- r is an earlier access with a's location, or a
+pub record Twin (L : Listing) (a r : ℕ) : Type 0 where
+  pub low : r ≤ a
+  pub access : r < a → Access L r
+  pub same : r < a → locAt L r ≡ locAt L a
 
 -- "some walk between them has no barrier inside"
 abbrev pub Clear : ℕ → Listing → ℕ → ℕ → Type 0

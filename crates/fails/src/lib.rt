@@ -3,13 +3,14 @@ ghost use mathlib.Core.Path.{_≡_};
 ghost use Prim.Native.Nat.{_<_, _≤_};
 ghost use lib.Dec.{T};
 ghost use Rattle.listing.specs.Bytes.{countN, nodesOf, Whole};
-ghost use Rattle.order.specs.Walks.{kindAt, Pair};
+ghost use Rattle.order.specs.Walks.{kindAt, locAt, Access, Pair};
+ghost use Rattle.order.specs.Chains.{overlap};
 ghost use Rattle.reach.specs.Rows.{Tells, Low, Holds, Members};
 ghost use Rattle.reach.specs.Touched.{Poured};
 ghost use Rattle.reach.specs.Whole.{Common};
 ghost use Rattle.fails.specs.Picked.{picked};
-ghost use Rattle.fails.specs.Growing.{RowGrown};
-ghost use Rattle.fails.specs.Failing.{Meeting, Clear, Exchanged, Ready};
+ghost use Rattle.fails.specs.Growing.{RowGrown, RowsDone};
+ghost use Rattle.fails.specs.Failing.{Meeting, Twin, Clear, Exchanged, Ready};
 ghost use Rattle.fails.specs.Back.{ComesRound, RowReturns};
 ghost use Rattle.fails.specs.Returning.{Copied, HomeEnds, Answered};
 
@@ -84,33 +85,61 @@ pub fn exchanged_rows(bytes: &[u8], p: &[u64; 256], i: &mut [u64; 256])
     reach::compose(n, &to, p, i);
 }
 
-// Whether a and b are accesses that may meet.
-fn meets_at(bytes: &[u8], a: usize, b: usize) -> bool
-    requires { ⌜ Whole (now bytes) × (a < countN (now bytes)) × (b < countN (now bytes)) ⌝ }
-    ensures { λ r. ⌜ Tells r (Meeting (nodesOf (now (bytes .entry))) a b) ⌝ }
+// Whether b, one of the accesses s, may meet the location x.
+fn meets_at(bytes: &[u8], s: &[u64; 2], x: usize, b: usize) -> bool
+    requires { ⌜ Whole (now bytes) × (b < countN (now bytes)) × Members (now s) (countN (now bytes)) (Access (nodesOf (now bytes))) ⌝ }
+    ensures { λ r. ⌜ Tells r (Access (nodesOf (now (bytes .entry))) b × T (overlap x (locAt (nodesOf (now (bytes .entry))) b))) ⌝ }
 {
-    if !order::is_access(listing::kind_at(bytes, a)) {
-        return false;
+    if reach::has(s, 0, b) {
+        return order::meets(x, listing::location_at(bytes, b));
     }
-    if !order::is_access(listing::kind_at(bytes, b)) {
-        return false;
-    }
-    let x = listing::location_at(bytes, a);
-    let y = listing::location_at(bytes, b);
-    order::meets(x, y)
+    false
 }
 
-// Whom a may meet, into row a of m.
-fn meet_row(bytes: &[u8], m: &mut [u64; 256], a: usize)
-    requires { ⌜ Whole (now bytes) × (a < countN (now bytes)) ⌝ }
+// Whom the access a may meet, into row a of m.
+fn fill_meetings(bytes: &[u8], s: &[u64; 2], m: &mut [u64; 256], a: usize)
+    requires { ⌜ Whole (now bytes) × (a < countN (now bytes)) × Members (now s) (countN (now bytes)) (Access (nodesOf (now bytes))) × Access (nodesOf (now bytes)) a ⌝ }
     ensures { λ _. ⌜ RowGrown (Meeting (nodesOf (now (bytes .entry)))) (now (m .entry)) (now (m .exit)) a (countN (now (bytes .entry))) ⌝ }
 {
     let n = listing::node_count(bytes);
+    let x = listing::location_at(bytes, a);
     for b in 0..n {
-        if meets_at(bytes, a, b) {
+        if meets_at(bytes, s, x, b) {
             reach::put(m, a, b);
         }
     }
+}
+
+// An earlier one of the accesses s with a's location, or a where there is none.
+fn twin(bytes: &[u8], s: &[u64; 2], a: usize) -> usize
+    requires { ⌜ Whole (now bytes) × (a < countN (now bytes)) × Members (now s) (countN (now bytes)) (Access (nodesOf (now bytes))) ⌝ }
+    ensures { λ r. ⌜ Twin (nodesOf (now (bytes .entry))) a r ⌝ }
+{
+    let x = listing::location_at(bytes, a);
+    for b in 0..a {
+        if reach::has(s, 0, b) {
+            if listing::location_at(bytes, b) == x {
+                return b;
+            }
+        }
+    }
+    a
+}
+
+// Whom a may meet, into row a of m. Who stands at the same location meets the same.
+fn meet_row(bytes: &[u8], s: &[u64; 2], m: &mut [u64; 256], a: usize)
+    requires { ⌜ Whole (now bytes) × (a < countN (now bytes)) × Members (now s) (countN (now bytes)) (Access (nodesOf (now bytes))) × RowsDone (Meeting (nodesOf (now bytes))) (now m) a (countN (now bytes)) ⌝ }
+    ensures { λ _. ⌜ RowGrown (Meeting (nodesOf (now (bytes .entry)))) (now (m .entry)) (now (m .exit)) a (countN (now (bytes .entry))) ⌝ }
+{
+    if !reach::has(s, 0, a) {
+        return;
+    }
+    let b = twin(bytes, s, a);
+    if b < a {
+        reach::or_row(m, a, b);
+        return;
+    }
+    fill_meetings(bytes, s, m, a);
 }
 
 // Who may meet whom.
@@ -118,10 +147,12 @@ fn meet_rows(bytes: &[u8], m: &mut [u64; 256])
     requires { ⌜ Whole (now bytes) ⌝ }
     ensures { λ _. ⌜ Holds (now (m .exit)) (countN (now (bytes .entry))) (Meeting (nodesOf (now (bytes .entry)))) ⌝ }
 {
+    let mut accesses = [0u64; 2];
+    gather(0, bytes, Pick::Access, &mut accesses);
     reach::clear(m);
     let n = listing::node_count(bytes);
     for a in 0..n {
-        meet_row(bytes, m, a);
+        meet_row(bytes, &accesses, m, a);
     }
 }
 

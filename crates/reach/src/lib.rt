@@ -38,7 +38,7 @@ pub fn take_out(w: &mut [u64], a: usize, b: usize)
 }
 
 // Puts row k into row a.
-fn or_row(w: &mut [u64], a: usize, k: usize)
+pub fn or_row(w: &mut [u64], a: usize, k: usize)
     requires { ⌜ (2 * a + 1 < length (now w)) × (2 * k + 1 < length (now w)) ⌝ }
     ensures { λ _. ⌜ Poured (now (w .entry)) (now (w .entry)) (now (w .exit)) a k ⌝ }
 {

@@ -1,64 +1,60 @@
 -- `fails::meet_row` meets its contract. Assumes nothing.
 use borrow.Author.Needs.{needs}
 use native.Mathlib.Omega.{arith}
-use mathlib.Core.Path.{_≡_}
-use mathlib.Core.Logic.{⊎-elim}
-use Prim.Native.Nat.{_≤_, _<_, _-_}
-use Rattle.listing.specs.Bytes.{countN, nodesOf}
-use Rattle.fails.specs.Failing.{Meeting}
-use Rattle.fails.specs.Growing.{RowGrown}
-use Rattle.fails.proofs.Growing.{grown-none, grown-put, grown-skip}
+use mathlib.Core.Path.{sym}
+use Prim.Native.Nat.{_<_}
+use Rattle.listing.specs.Bytes.{nodesOf}
+use Rattle.fails.proofs.Tests.{told-yes, told-no, meeting-twin}
+use Rattle.fails.proofs.Growing.{grown-empty, grown-copy}
 use Rattle.fails.proofs.meet_row.Statement.{statement}
 use Rattle.fails.proofs.meet_row.Tie as tie
 
-abbrev Inv-loop : tie.InvT-loop
-Inv-loop bytes m₀ a n b₀ m b = (n ≡ countN bytes) × (b ≤ n) × (n ≤ 128) × RowGrown (Meeting (nodesOf bytes)) m₀ m a b
+has-requires : tie.Need-has-requires
+has-requires c κs = search needs
 
-abbrev μ-loop : tie.MeasureT-loop
-μ-loop bytes m₀ a n b₀ m b = n - b
+returns : tie.Need-returns
+returns c =
+    let k = c .before .before .before .before in
+    grown-empty _ _ _ _ (λ y g. told-no _ (c .before .has .result) (c .if1 .taken) (c .before .has .ensures) (k .pre .2 .whole (k .args .a) (k .pre .1) (g .0)))
 
-node-count-requires : tie.Need-node-count-requires Inv-loop μ-loop
-node-count-requires c κs = search needs
+twin-requires : tie.Need-twin-requires
+twin-requires c κs = search needs
 
-loop-holds : tie.Need-loop-holds Inv-loop μ-loop
-loop-holds c = (c .node-count .ensures .0, omega arith, c .node-count .ensures .1, grown-none _ _ _)
+or-row-requires : tie.Need-or-row-requires
+or-row-requires c κs = let k = c .before .before .before .before .before .before .before in omega (arith, k .pre .0 .few, k .pre .1)
 
-meets-at-requires : tie.Need-meets-at-requires Inv-loop μ-loop
-meets-at-requires c κs = search needs
+returns-2 : tie.Need-returns-2
+returns-2 c =
+    let t = c .before .before .before in
+    let h = t .before .before in
+    let k = h .before .before .before in
+    let x = k .args in
+    let L = nodesOf (x .bytes .now) in
+    let g = t .twin .ensures in
+    let l : t .twin .result < x .a = c .before .before .if2 .taken in
+    let i = told-yes _ (h .has .result) (t .before .if1 .left) (h .has .ensures) in
+    let acc = k .pre .2 .sound (x .a) (omega (arith, k .pre .0 .few, k .pre .1)) i .1 in
+    grown-copy _ _ _ _ _ _ (k .pre .0 .few) l (k .pre .3) (λ y m. meeting-twin L (t .twin .result) (x .a) y (g .same l) acc m) (λ y m. meeting-twin L (x .a) (t .twin .result) y (sym (g .same l)) (g .access l) m) (c .or-row .ensures)
 
-put-requires : tie.Need-put-requires Inv-loop μ-loop
-put-requires c κs = search needs
+fill-meetings-requires : tie.Need-fill-meetings-requires
+fill-meetings-requires c κs =
+    let t = c .before .before in
+    let h = t .before .before in
+    let k = h .before .before .before in
+    let i = told-yes _ (h .has .result) (t .before .if1 .left) (h .has .ensures) in
+    (k .pre .0, k .pre .1, k .pre .2, k .pre .2 .sound (k .args .a) (omega (arith, k .pre .0 .few, k .pre .1)) i .1)
 
-add-b : tie.Need-add-b Inv-loop μ-loop
-add-b c = omega arith
-
-loop-less : tie.Need-loop-less Inv-loop μ-loop
-loop-less c = omega arith
-
-loop-again : tie.Need-loop-again Inv-loop μ-loop
-loop-again c =
-    let at = c .before .before .before in
-    let inv = at .loop .inv in
-    let l : at .loop .b < 128 = omega arith in
-    ⊎-elim
-    (λ q. (inv .0, omega arith, inv .2, rw (q .3) (grown-put _ _ _ _ _ _ l (inv .3) (rw (q .0 .taken) at (c .before .meets-at .ensures)) (q .2 .ensures))))
-    (λ q. (inv .0, omega arith, inv .2, rw (q .1) (grown-skip _ _ _ _ _ (inv .3) (rw (q .0 .left) at (c .before .meets-at .ensures)))))
-    (c .if1 .came)
-
-returns : tie.Need-returns Inv-loop μ-loop
-returns c = let e : c .before .loop .b ≡ countN (c .before .before .before .before .args .bytes .now) = omega arith in rw e at (c .before .loop .inv .3)
+returns-3 : tie.Need-returns-3
+returns-3 c = c .fill-meetings .ensures
 
 pub meet-row-spec : {M : Type 1} → statement M
 meet-row-spec =
     tie.close
     (tie.spec
-    Inv-loop
-    μ-loop
-    node-count-requires
-    loop-holds
-    meets-at-requires
-    put-requires
-    add-b
-    loop-less
-    loop-again
-    returns)
+    has-requires
+    returns
+    twin-requires
+    or-row-requires
+    returns-2
+    fill-meetings-requires
+    returns-3)

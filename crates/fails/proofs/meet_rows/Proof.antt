@@ -4,6 +4,8 @@ use native.Mathlib.Omega.{arith}
 use mathlib.Core.Path.{_≡_}
 use Prim.Native.Nat.{_≤_, _-_}
 use Rattle.listing.specs.Bytes.{countN, nodesOf}
+use Rattle.order.specs.Walks.{Access}
+use Rattle.reach.specs.Rows.{Members}
 use Rattle.fails.specs.Failing.{Meeting}
 use Rattle.fails.specs.Growing.{RowsDone}
 use Rattle.fails.proofs.Growing.{rows-none, rows-more, rows-hold}
@@ -11,10 +13,13 @@ use Rattle.fails.proofs.meet_rows.Statement.{statement}
 use Rattle.fails.proofs.meet_rows.Tie as tie
 
 abbrev Inv-loop : tie.InvT-loop
-Inv-loop bytes m₀ n a₀ m a = (n ≡ countN bytes) × (a ≤ n) × (n ≤ 128) × RowsDone (Meeting (nodesOf bytes)) m a (countN bytes)
+Inv-loop bytes m₀ accesses n a₀ m a = (n ≡ countN bytes) × (a ≤ n) × (n ≤ 128) × Members accesses (countN bytes) (Access (nodesOf bytes)) × RowsDone (Meeting (nodesOf bytes)) m a (countN bytes)
 
 abbrev μ-loop : tie.MeasureT-loop
-μ-loop bytes m₀ n a₀ m a = n - a
+μ-loop bytes m₀ accesses n a₀ m a = n - a
+
+gather-requires : tie.Need-gather-requires Inv-loop μ-loop
+gather-requires c κs = search needs
 
 clear-requires : tie.Need-clear-requires Inv-loop μ-loop
 clear-requires c κs = tt
@@ -23,10 +28,13 @@ node-count-requires : tie.Need-node-count-requires Inv-loop μ-loop
 node-count-requires c κs = search needs
 
 loop-holds : tie.Need-loop-holds Inv-loop μ-loop
-loop-holds c = (c .node-count .ensures .0, omega arith, c .node-count .ensures .1, rows-none _ _ _ (c .before .clear .ensures))
+loop-holds c = (c .node-count .ensures .0, omega arith, c .node-count .ensures .1, c .before .before .before .gather .ensures, rows-none _ _ _ (c .before .clear .ensures))
 
 meet-row-requires : tie.Need-meet-row-requires Inv-loop μ-loop
-meet-row-requires c κs = search needs
+meet-row-requires c κs =
+    let at = c .before .before .before in
+    let inv = at .loop .inv in
+    (at .before .before .before .before .before .before .before .pre, omega arith, inv .3, inv .4)
 
 add-a : tie.Need-add-a Inv-loop μ-loop
 add-a c = omega arith
@@ -36,13 +44,13 @@ loop-less c = omega arith
 
 loop-again : tie.Need-loop-again Inv-loop μ-loop
 loop-again c =
-    let inv = c .before .before .before .loop .inv in
-    (inv .0, omega arith, inv .2, rows-more _ _ _ _ _ (omega arith) (inv .3) (c .meet-row .ensures))
+    let inv = c .before .before .before .before .loop .inv in
+    (inv .0, omega arith, inv .2, inv .3, rows-more _ _ _ _ _ (omega arith) (inv .4) (c .meet-row .ensures))
 
 returns : tie.Need-returns Inv-loop μ-loop
 returns c =
-    let e : c .before .loop .a ≡ countN (c .before .before .before .before .before .before .args .bytes .now) = omega arith in
-    rows-hold _ _ _ (rw e at (c .before .loop .inv .3))
+    let e : c .before .loop .a ≡ countN (c .before .before .before .before .before .before .before .before .args .bytes .now) = omega arith in
+    rows-hold _ _ _ (rw e at (c .before .loop .inv .4))
 
 pub meet-rows-spec : {M : Type 1} → statement M
 meet-rows-spec =
@@ -50,6 +58,7 @@ meet-rows-spec =
     (tie.spec
     Inv-loop
     μ-loop
+    gather-requires
     clear-requires
     node-count-requires
     loop-holds

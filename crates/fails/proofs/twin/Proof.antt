@@ -1,0 +1,67 @@
+-- `fails::twin` meets its contract. Assumes nothing.
+use borrow.Author.Needs.{needs}
+use native.Mathlib.Omega.{arith}
+use mathlib.Core.Path.{_≡_, sym, _∙_}
+use Prim.Native.Nat.{_≤_, _-_}
+use Rattle.listing.specs.Bytes.{nodesOf}
+use Rattle.order.specs.Walks.{locAt}
+use Rattle.fails.proofs.twin.Statement.{statement}
+use Rattle.fails.proofs.twin.Tie as tie
+
+abbrev Inv-loop : tie.InvT-loop
+Inv-loop bytes s a x b₀ b = (b ≤ a) × (x ≡ locAt (nodesOf bytes) a)
+
+abbrev μ-loop : tie.MeasureT-loop
+μ-loop bytes s a x b₀ b = a - b
+
+location-at-requires : tie.Need-location-at-requires Inv-loop μ-loop
+location-at-requires c κs = search needs
+
+loop-holds : tie.Need-loop-holds Inv-loop μ-loop
+loop-holds c = (omega arith, c .location-at .ensures .0)
+
+has-requires : tie.Need-has-requires Inv-loop μ-loop
+has-requires c κs = search needs
+
+location-at-requires-2 : tie.Need-location-at-requires-2 Inv-loop μ-loop
+location-at-requires-2 c κs = let k = c .before .before .before .before .before .before .before in (k .pre .0, omega (arith, k .pre .1))
+
+returns : tie.Need-returns Inv-loop μ-loop
+returns c =
+    let h = c .before .before .before in
+    let i = h .before .before .before in
+    let k = i .before .before .before in
+    let g = rw (c .before .before .if1 .taken) at (h .has .ensures) in
+    record {
+      low = omega arith;
+      access = λ l. k .pre .2 .sound (i .loop .b) (omega (arith, k .pre .0 .few, k .pre .1)) g .1;
+      same = λ l. sym (c .before .location-at2 .ensures .0) ∙ (c .if2 .taken ∙ i .loop .inv .1);
+    }
+
+add-b : tie.Need-add-b Inv-loop μ-loop
+add-b c = omega arith
+
+loop-less : tie.Need-loop-less Inv-loop μ-loop
+loop-less c = omega arith
+
+loop-again : tie.Need-loop-again Inv-loop μ-loop
+loop-again c = (omega arith, c .before .before .before .before .loop .inv .1)
+
+returns-2 : tie.Need-returns-2 Inv-loop μ-loop
+returns-2 c = record { low = omega arith; access = λ l. absurd (omega arith); same = λ l. absurd (omega arith) }
+
+pub twin-spec : {M : Type 1} → statement M
+twin-spec =
+    tie.close
+    (tie.spec
+    Inv-loop
+    μ-loop
+    location-at-requires
+    loop-holds
+    has-requires
+    location-at-requires-2
+    returns
+    add-b
+    loop-less
+    loop-again
+    returns-2)
