@@ -6,6 +6,7 @@ use mathlib.Core.Bool.{Bool, true, false, not, _||_}
 use mathlib.Core.List.{List}
 use Prim.Native.Nat.{ℕ, _≤_, _<_}
 use native.Mathlib.Omega.{arith}
+use native.Mathlib.Decide.{decLt}
 use lib.Dec.{T, eqb→eq}
 use lib.ListN.{length}
 use Rattle.listing.specs.Bytes.{countN, nodesOf}
@@ -18,6 +19,7 @@ use Rattle.order.proofs.Bools.{one→}
 use Rattle.order.proofs.Laws.{access-in}
 use Rattle.order.proofs.Entries.{number-leave, number-need, number-unless, number-below, entry-of}
 use Rattle.reach.specs.Rows.{Has, Tells, Holds}
+use Rattle.reach.specs.Touched.{Next}
 use Rattle.fails.specs.Failing.{Suspect, Exchanged}
 use Rattle.failing.specs.First.{Prepared}
 use Rattle.fails.proofs.Tests.{no-fails, told-yes}
@@ -44,6 +46,15 @@ suspect-fails q L a b s n k = record { chain = s .0; needs = n; apart = k; unbar
 
 pub fails-suspect : (q : ℕ) (L : Listing) (a b : ℕ) → Fails q L a b → Suspect q L a b
 fails-suspect q L a b f = (f .chain, f .unbarred)
+
+-- what the row of suspects has not got does not fail
+pub passed-over : {q : ℕ} {bytes c i : List ℕ} → Prepared q bytes c i → (a k n r : ℕ) → n ≡ countN bytes → a < countN bytes → Next c a k n r
+    → ((z : ℕ) → z < k → Fails q (nodesOf bytes) a z → ⊥) → (z : ℕ) → z < r → Fails q (nodesOf bytes) a z → ⊥
+passed-over h a k n r e ha o g z l f = by (decLt z k)
+  where
+    by : Dec (z < k) → ⊥
+    by (yes d) = g z d f
+    by (no d) = o .none z (omega arith) l (h .suspects .whole a z ha (omega (arith, o .low)) (fails-suspect _ _ a z f))
 
 -- what the rows name is a suspect
 pub suspected : {q : ℕ} {bytes c i : List ℕ} → Prepared q bytes c i → (a b : ℕ) → b < countN bytes

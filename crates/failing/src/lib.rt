@@ -43,10 +43,12 @@ pub fn second_failing(question: u8, bytes: &[u8], c: &[u64; 256], i: &[u64; 256]
     ensures { λ r. ⌜ SecondFailing question (nodesOf (now (bytes .entry))) (countN (now (bytes .entry))) a r ⌝ }
 {
     let n = listing::node_count(bytes);
-    for b in 0..n {
+    let mut b = reach::next(c, a, 0, n);
+    while b < n {
         if fails_at(question, bytes, c, i, a, b) {
             return b;
         }
+        b = reach::next(c, a, b + 1, n);
     }
     n
 }

@@ -7,7 +7,7 @@ use Prim.Native.Nat.{ℕ, _≤_, _<_}
 use native.Mathlib.Omega.{arith}
 use lib.ListN.{length}
 use Rattle.listing.specs.Node.{Listing}
-use Rattle.order.specs.Walks.{Access, Pair}
+use Rattle.order.specs.Walks.{Pair}
 use Rattle.order.specs.Chains.{IsPair}
 use Rattle.order.proofs.Laws.{access-in}
 use Rattle.reach.specs.Rows.{Has, Holds}
@@ -19,23 +19,23 @@ use Rattle.fails.proofs.OnChain.{chain-returns, returns-chain}
 module _ (L : Listing) (n : ℕ) (size : n ≡ length L) (small : n ≤ 128) (p m w : List ℕ) (hp : Holds p n (Pair L)) (hm : Holds m n (Meeting L)) (hw : Holds w n (ComesRound L)) where
   home-of : (a d : ℕ) → d < 128 → Has m a d ⊎ Has w a d → Home L a d
   home-of a d l (inl h) = inl (hm .sound a d l h .2 .2)
-  home-of a d l (inr h) = inr (hw .sound a d l h .2 .2)
+  home-of a d l (inr h) = inr (hw .sound a d l h .2 .1)
 
-  home-row : (a d : ℕ) → Access L a → Access L d → a < n → d < n → Home L a d → Has m a d ⊎ Has w a d
-  home-row a d ha hd la ld (inl h) = inl (hm .whole a d la ld (ha, hd, h))
-  home-row a d ha hd la ld (inr h) = inr (hw .whole a d la ld (ha, hd, h))
+  home-row : (a d : ℕ) → IsPair L (a, d) → a < n → d < n → Home L a d → Has m a d ⊎ Has w a d
+  home-row a d k la ld (inl h) = inl (hm .whole a d la ld (k .from, k .to, h))
+  home-row a d k la ld (inr h) = inr (hw .whole a d la ld (k, h))
 
   returns-of : (a b : ℕ) → b < 128 → RowReturns n p m w a b → Returns L a b
-  returns-of a b l (inl h) = inl (hw .sound a b l h .2 .2)
+  returns-of a b l (inl h) = inl (hw .sound a b l h .2 .1)
   returns-of a b l (inr r) =
       let ld : r .0 < 128 = omega (arith, r .1) in
       inr (r .0, r .2, hm .sound a b l (r .3) .2 .2, hp .sound a (r .0) ld (r .4) .2, home-of a (r .0) ld (r .5))
 
   row-returns : (a b : ℕ) → IsPair L (a, b) → a < n → b < n → Returns L a b → RowReturns n p m w a b
-  row-returns a b h la lb (inl r) = inl (hw .whole a b la lb (h .from, h .to, r))
+  row-returns a b h la lb (inl r) = inl (hw .whole a b la lb (h, r))
   row-returns a b h la lb (inr r) =
       let ld : r .0 < n = omega (arith, access-in L (r .0) (r .3 .to)) in
-      inr (r .0, ld, r .1, hm .whole a b la lb (h .from, h .to, r .2), hp .whole a (r .0) la ld (r .3), home-row a (r .0) (h .from) (r .3 .to) la ld (r .4))
+      inr (r .0, ld, r .1, hm .whole a b la lb (h .from, h .to, r .2), hp .whole a (r .0) la ld (r .3), home-row a (r .0) (r .3) la ld (r .4))
 
   -- PAIRS ON A CHAIN: those that return
   pub chain-hold : (c c′ : List ℕ) → Holds c n (RowReturns n p m w) → Common p c c′ → Holds c′ n (OnChain L)

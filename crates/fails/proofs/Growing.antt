@@ -73,6 +73,22 @@ module _ (A : ℕ → ℕ → Type 0) where
       done y m h (yes l) = g .done y l h
       done y m h (no l) = let e : y ≡ k = omega arith in absurd (n (subst (A a) e h))
 
+  -- the nodes that a row does not name are passed over
+  pub grown-jump : (w v : List ℕ) (a k j : ℕ) → k ≤ j → RowGrown A w v a k → ((z : ℕ) → k ≤ z → z < j → A a z → ⊥) → RowGrown A w v a j
+  grown-jump w v a k j l g n = record {
+    gives = λ x y m h. old x y (g .gives x y m h);
+    keeps = g .keeps;
+    done = λ y m h. done y m h (decLt y k);
+  }
+    where
+      old : (x y : ℕ) → Has w x y ⊎ ((x ≡ a) × (y < k) × A a y) → Has w x y ⊎ ((x ≡ a) × (y < j) × A a y)
+      old x y (inl h) = inl h
+      old x y (inr h) = inr (h .0, omega (arith, h .1), h .2)
+
+      done : (y : ℕ) → y < j → A a y → Dec (y < k) → Has v a y
+      done y m h (yes o) = g .done y o h
+      done y m h (no o) = absurd (n y (omega arith) m h)
+
   -- a row that keeps nothing
   pub grown-empty : (w : List ℕ) (a n : ℕ) → ((y : ℕ) → A a y → ⊥) → RowGrown A w w a n
   grown-empty w a n e = record { gives = λ x y l h. inl h; keeps = λ x y l h. h; done = λ y l h. absurd (e y h) }

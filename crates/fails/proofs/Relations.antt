@@ -14,11 +14,11 @@ use Rattle.order.specs.Walks.{kindAt, isRead, isWrite, isRmw, isAccess, Access,
 use Rattle.order.specs.Need.{bars, Barrier, RmwInside}
 use Rattle.order.proofs.Bools.{one}
 use Rattle.order.proofs.Lists.{all-in, in-all, in-right, Cut, cut, row-join, row-before, row-after}
-use Rattle.order.proofs.Laws.{access-in, walk-in, bars-ends}
+use Rattle.order.proofs.Laws.{access-in, walk-in, meets-sym, bars-ends}
 use Rattle.reach.specs.Rows.{Has, Holds, Members, Low, Link}
 use Rattle.reach.specs.Links.{Walked}
 use Rattle.reach.specs.Whole.{Through, Then, Turned, To, Among, Away}
-use Rattle.fails.specs.Back.{Turns, Leads, ComesRound}
+use Rattle.fails.specs.Back.{Turns, Leads, ComesRound, RowRound}
 use Rattle.fails.specs.Failing.{Meeting, Clear, Exchanged}
 use Rattle.fails.proofs.Tests.{not-true, true-not}
 use Rattle.fails.proofs.OnChain.{turns-lead, lead-turns}
@@ -99,21 +99,22 @@ module _ (L : Listing) (n : ℕ) (size : n ≡ length L) (small : n ≤ 128) whe
               hh .whole a c la lc (i .0, r, row-low a (i .0) c r);
         }
 
-      -- COMING ROUND: an end that meets another node than a that leads back to a
-      pub around-hold : (h h′ w : List ℕ) → Holds h n (λ a c. Access L a × Leads L a c) → Holds h′ n (Away h) → Holds w n (Then n h′ m) → Holds w n (ComesRound L)
+      -- COMING ROUND: a pair whose end meets another node than its first that leads back to it
+      pub around-hold : (h h′ w : List ℕ) → Holds h n (λ a c. Access L a × Leads L a c) → Holds h′ n (Away h) → Holds w n (RowRound p m h′) → Holds w n (ComesRound L)
       around-hold h h′ w hh ha hw = record {
         sound = λ a b l g.
             let s = hw .sound a b l g in
-            let c = s .2 .0 in
-            let x = ha .sound a c (omega (arith, s .2 .1)) (s .2 .2) in
-            let y = hh .sound a c (omega (arith, s .2 .1)) (x .2 .0) in
-            let z = hm .sound c b l (s .2 .3) in
-            (s .0, s .1, (y .2 .0, z .2 .1, (c, x .2 .1, y .2 .1, z .2 .2)));
+            let k = s .2 .1 in
+            let c = k .0 in
+            let x = ha .sound a c (k .1) (k .3) in
+            let y = hh .sound a c (k .1) (x .2 .0) in
+            let z = hm .sound b c (k .1) (k .2) in
+            (s .0, s .1, (hp .sound a b l (s .2 .0) .2, (c, x .2 .1, y .2 .1, meets-sym L b c (z .2 .2))));
         whole = λ a b la lb g.
-            let c = g .2 .0 in
-            let k = g .2 .2 .2 .from in
+            let c = g .1 .0 in
+            let k = g .1 .2 .2 .from in
             let lc = below c k in
-            hw .whole a b la lb (c, lc, ha .whole a c la lc (hh .whole a c la lc (g .0, g .2 .2), g .2 .1), hm .whole c b lc lb (k, g .1, g .2 .3));
+            hw .whole a b la lb (hp .whole a b la lb (g .0), (c, omega (arith, lc), hm .whole b c lb lc (g .0 .to, k, meets-sym L c b (g .1 .3)), ha .whole a c la lc (hh .whole a c la lc (g .0 .from, g .1 .2), g .1 .1)));
       }
 
   -- WALKS THAT NO BARRIER BARS

@@ -5,9 +5,8 @@ use mathlib.Core.List.{List}
 use Prim.Native.Nat.{ℕ, _<_}
 use Rattle.listing.specs.Node.{Listing}
 use Rattle.order.specs.Rows.{All, Row}
-use Rattle.order.specs.Walks.{Access}
 use Rattle.order.specs.Chains.{MayMeet, Ends, IsPair, Joined}
-use Rattle.reach.specs.Rows.{Has}
+use Rattle.reach.specs.Rows.{Has, Meet}
 
 -- some pair that starts at c has an end that meets a
 abbrev pub Turns : Listing → ℕ → ℕ → Type 0
@@ -21,9 +20,13 @@ Leads L a c = (d : ℕ) × (vs : List Ends) × IsPair L (c, d) × All (IsPair L)
 abbrev pub Around : Listing → ℕ → ℕ → Type 0
 Around L a b = (c : ℕ) × (a ≢ c) × Leads L a c × MayMeet L c b
 
--- the same of two accesses
+-- the same of a pair
 abbrev pub ComesRound : Listing → ℕ → ℕ → Type 0
-ComesRound L a b = Access L a × Access L b × Around L a b
+ComesRound L a b = IsPair L (a, b) × Around L a b
+
+-- the same by rows: p keeps the pairs, m who meets whom, h which nodes lead back to which others
+abbrev pub RowRound : List ℕ → List ℕ → List ℕ → ℕ → ℕ → Type 0
+RowRound p m h a b = Has p a b × Meet m b h a
 
 -- the end d meets a, or leads back to it through another node
 abbrev pub Home : Listing → ℕ → ℕ → Type 0

@@ -11,7 +11,7 @@ ghost use Rattle.reach.specs.Whole.{Common};
 ghost use Rattle.fails.specs.Picked.{picked};
 ghost use Rattle.fails.specs.Growing.{RowGrown, RowsDone};
 ghost use Rattle.fails.specs.Failing.{Meeting, Twin, Clear, Exchanged, Ready};
-ghost use Rattle.fails.specs.Back.{ComesRound, RowReturns};
+ghost use Rattle.fails.specs.Back.{ComesRound, RowRound, RowReturns};
 ghost use Rattle.fails.specs.Returning.{Copied, HomeEnds, Answered};
 
 // Which nodes to gather.
@@ -156,7 +156,32 @@ fn meet_rows(bytes: &[u8], m: &mut [u64; 256])
     }
 }
 
-// Which ends come round to which first nodes: who meets a node, other than a, that leads back to a.
+// The pairs from a whose end meets a node of row a of h, into row a of w.
+fn come_row(n: usize, p: &[u64; 256], m: &[u64; 256], h: &[u64; 256], w: &mut [u64; 256], a: usize)
+    requires { ⌜ (n ≤ 128) × (a < n) ⌝ }
+    ensures { λ _. ⌜ RowGrown (RowRound (now (p .entry)) (now (m .entry)) (now (h .entry))) (now (w .entry)) (now (w .exit)) a n ⌝ }
+{
+    let mut b = reach::next(p, a, 0, n);
+    while b < n {
+        if reach::meet(m, b, h, a) {
+            reach::put(w, a, b);
+        }
+        b = reach::next(p, a, b + 1, n);
+    }
+}
+
+// The same from every node.
+fn come_rows(n: usize, p: &[u64; 256], m: &[u64; 256], h: &[u64; 256], w: &mut [u64; 256])
+    requires { ⌜ n ≤ 128 ⌝ }
+    ensures { λ _. ⌜ Holds (now (w .exit)) n (RowRound (now (p .entry)) (now (m .entry)) (now (h .entry))) ⌝ }
+{
+    reach::clear(w);
+    for a in 0..n {
+        come_row(n, p, m, h, w, a);
+    }
+}
+
+// Which pairs come round to their first nodes: their end meets a node, other than the first, that leads back to it.
 fn around_rows(bytes: &[u8], p: &[u64; 256], m: &[u64; 256], w: &mut [u64; 256])
     requires { ⌜ Whole (now bytes) × Holds (now p) (countN (now bytes)) (Pair (nodesOf (now bytes))) × Holds (now m) (countN (now bytes)) (Meeting (nodesOf (now bytes))) ⌝ }
     ensures { λ _. ⌜ Holds (now (w .exit)) (countN (now (bytes .entry))) (ComesRound (nodesOf (now (bytes .entry)))) ⌝ }
@@ -170,7 +195,7 @@ fn around_rows(bytes: &[u8], p: &[u64; 256], m: &[u64; 256], w: &mut [u64; 256])
     reach::compose(n, m, &back, &mut leads);
     reach::close(n, &every, &mut leads);
     reach::no_loops(n, &mut leads);
-    reach::compose(n, &leads, m, w);
+    come_rows(n, p, m, &leads, w);
 }
 
 // Row a of m, into the one row of s.

@@ -2,13 +2,15 @@
 -- Assumes nothing.
 use mathlib.Core.Path.{_≡_, refl, sym, ap, _∙_}
 use Prim.Native.Nat.{ℕ, zero, suc, _+_, _-_, _*_, _/_, _%_, _^_, _≤_, _<_, min, max}
-use native.Mathlib.Nat.{one-mul, pow-suc, div-eq-of-lt, mul-mod-left}
+use native.Mathlib.Nat.{one-mul, pow-suc, div-eq-of-lt, mul-mod-left, lt-of-lt-of-le, lt-of-le-of-lt}
 use native.Mathlib.Omega.{arith}
 use native.Mathlib.Numerals.{one-add}
 use native.Mathlib.Decide.{decLt, ℕ-discrete}
-use lib.Pow.{pow-pos, pow-lt, pow-add, shl-exact, shl-shr, shr-shr}
+use lib.Pow.{pow-pos, pow-lt, pow-mono, pow-add, shl-exact, shl-shr, shr-shr, shr-le}
+use lib.Count.{trailingZeros, under}
 use lib.Bits.{bitOr, bitAnd, bitXor, differ, or-step, or-shr, and-step, and-shr, xor-step, xor-shr, and-lt}
 use Rattle.reach.specs.Rows.{bit}
+use Rattle.reach.specs.Touched.{Lowest}
 
 low-or : (x y : ℕ) → bitOr x y % 2 ≡ max (x % 2) (y % 2)
 low-or x y = omega (arith, or-step x y)
@@ -126,3 +128,73 @@ no-common x y i e a b =
     let c = bit-and x y i in
     let z : bit (bitAnd x y) i ≡ 0 = ap (λ (u : ℕ). bit u i) e ∙ bit-zero i in
     omega arith
+
+-- ---- the lowest bit
+
+bit-half : (n i : ℕ) → bit n (suc i) ≡ bit (n / 2) i
+unfolding bit
+bit-half n i = ap (λ (u : ℕ). u % 2) (ap (λ (u : ℕ). n / 2 ^ u) (sym (one-add i)) ∙ sym (shr-shr n 1 i))
+
+bit-shifted : (x b i : ℕ) → bit (x / 2 ^ b) i ≡ bit x (b + i)
+unfolding bit
+bit-shifted x b i = ap (λ (u : ℕ). u % 2) (shr-shr x b i)
+
+bit-high : (x i : ℕ) → x < 2 ^ 64 → 64 ≤ i → bit x i ≡ 0
+unfolding bit
+bit-high x i h l = ap (λ (z : ℕ). z % 2) (div-eq-of-lt (lt-of-lt-of-le h (pow-mono l)))
+
+-- the bit above the trailing zeros is set
+zeros-set : (k n : ℕ) → n < 2 ^ k → (n ≡ 0 → ⊥) → bit n (trailingZeros k n) ≡ 1
+unfolding trailingZeros bit
+zeros-set zero n h ne = absurd (ne (omega arith))
+zeros-set (suc k) n h ne = by (n % 2) refl (λ m. zeros-set k (n / 2) (omega (arith, pow-suc 2 k)) m)
+  where
+    by : (d : ℕ) → n % 2 ≡ d → ((n / 2 ≡ 0 → ⊥) → bit (n / 2) (trailingZeros k (n / 2)) ≡ 1) → bit n (under d (trailingZeros k (n / 2))) ≡ 1
+    by zero e rec = bit-half n (trailingZeros k (n / 2)) ∙ rec (λ q. ne (omega arith))
+    by (suc d) e rec = omega arith
+
+-- and those below are not
+zeros-below : (k n z : ℕ) → z < trailingZeros k n → bit n z ≡ 1 → ⊥
+unfolding trailingZeros bit
+zeros-below zero n z h b = omega arith
+zeros-below (suc k) n z h b = by (n % 2) refl z h b (λ y. zeros-below k (n / 2) y)
+  where
+    by : (d : ℕ) → n % 2 ≡ d → (z : ℕ) → z < under d (trailingZeros k (n / 2)) → bit n z ≡ 1 → ((y : ℕ) → y < trailingZeros k (n / 2) → bit (n / 2) y ≡ 1 → ⊥) → ⊥
+    by zero e zero h b rec = omega arith
+    by zero e (suc z) h b rec = rec z (omega arith) (sym (bit-half n z) ∙ b)
+    by (suc d) e z h b rec = omega arith
+
+module _ (x b : ℕ) (hx : x < 2 ^ 64) (hb : b < 64) where
+  from-shifted : (z : ℕ) → b ≤ z → bit x z ≡ bit (x / 2 ^ b) (z - b)
+  from-shifted z h =
+      let e : b + (z - b) ≡ z = omega arith in
+      ap (bit x) (sym e) ∙ sym (bit-shifted x b (z - b))
+
+  pub lowest-none : x / 2 ^ b ≡ 0 → Lowest x b 64
+  lowest-none e =
+      record {
+        low = omega arith;
+        from = omega arith;
+        here = λ h. absurd (omega arith);
+        none = λ z l h o. (let f = sym (from-shifted z l) ∙ o in let g : bit (x / 2 ^ b) (z - b) ≡ 0 = ap (λ (u : ℕ). bit u (z - b)) e ∙ bit-zero (z - b) in omega arith);
+      }
+
+  -- THE LOWEST BIT STANDS ABOVE THE TRAILING ZEROS
+  pub lowest-some : (x / 2 ^ b ≡ 0 → ⊥) → Lowest x b (b + trailingZeros 64 (x / 2 ^ b))
+  lowest-some ne =
+      record {
+        low = low (decLt r 64);
+        from = omega arith;
+        here = λ h. set;
+        none = λ z l h o. zeros-below 64 (x / 2 ^ b) (z - b) (omega arith) (sym (from-shifted z l) ∙ o);
+      }
+    where
+      r : ℕ
+      r = b + trailingZeros 64 (x / 2 ^ b)
+
+      set : bit x r ≡ 1
+      set = sym (bit-shifted x b (trailingZeros 64 (x / 2 ^ b))) ∙ zeros-set 64 (x / 2 ^ b) (lt-of-le-of-lt (shr-le x b) hx) ne
+
+      low : Dec (r < 64) → r ≤ 64
+      low (yes h) = omega arith
+      low (no h) = let e = bit-high x r hx (omega arith) in let s = set in absurd (omega arith)

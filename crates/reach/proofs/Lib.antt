@@ -5,6 +5,7 @@ pub mod Holds
 pub mod Rounds
 pub mod Ways
 pub mod Loading
+pub mod Sweeps
 pub mod Steps
 pub mod Thinned
 pub mod Relations

@@ -61,19 +61,7 @@ loaded-all L w n e g =
       whole = λ a b ha hb s. g .keeps a b ha hb (s .2);
     }
 
-row-map : {L K : ℕ → ℕ → Type 0} (f : (a b : ℕ) → L a b → K a b) (a : ℕ) (inside : List ℕ) (b : ℕ) → Row L a inside b → Row K a inside b
+-- what follows by one relation follows by a wider one
+pub row-map : {L K : ℕ → ℕ → Type 0} (f : (a b : ℕ) → L a b → K a b) (a : ℕ) (inside : List ℕ) (b : ℕ) → Row L a inside b → Row K a inside b
 row-map f a [] b r = f a b r
 row-map f a (c ∷ cs) b r = (f a c (r .0), row-map f c cs b (r .1))
-
--- CLOSED LINKS OF A LISTING ARE ITS WALKS
-pub walked : (L : Listing) (m w v : List ℕ) (n : ℕ) → n ≤ 128 → length L ≡ n → Holds w n (Succ L) → Holds v n (Through n w m) → Holds v n (Walked L m)
-walked L m w v n hn e g c = holds-map (λ a b ha hb p. (p .0, row-map to a (p .0) b (p .1), p .2)) (λ a b ha hb p. (p .0, row-map from a (p .0) b (p .1), p .2)) c
-  where
-    to : (a b : ℕ) → Link n w a b → Succ L a b
-    to = of-link hn g
-
-    from : (a b : ℕ) → Succ L a b → Link n w a b
-    from a b s =
-        let ha = s .0 in
-        let hb = s .1 in
-        link-of g a b (omega arith) (omega arith) s

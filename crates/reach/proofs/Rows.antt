@@ -14,9 +14,10 @@ use lib.Bits.{bitOr, bitAnd, and-zero-l, or-zero-l}
 use lib.ListN.{length, getD, set, length-set, List·getD-eq-default}
 use lib.Seq.{getD-set-same, getD-set-other}
 use Rattle.reach.specs.Rows.{Tells, bit, at, Has, Blank, Meet}
-use Rattle.reach.specs.Touched.{Added, Removed, Mixed, Poured, Emptied}
+use Rattle.reach.specs.Touched.{Added, Removed, Mixed, Poured, Emptied, Lowest, Next}
 use Rattle.reach.specs.Whole.{Common, United, Without}
-use Rattle.reach.proofs.Bit.{hot, bitLess, bit-or, bit-and, bit-less, bit-zero, common-bit, no-common, bit-hot-same, bit-hot-other}
+use Rattle.reach.specs.Links.{Covers}
+use Rattle.reach.proofs.Bit.{hot, bitLess, bit-or, bit-and, bit-le, bit-less, bit-zero, common-bit, no-common, bit-hot-same, bit-hot-other}
 
 -- a bit is 0 or 1
 pub at-le : (w : List ℕ) (a b : ℕ) → at w a b ≤ 1
@@ -292,6 +293,68 @@ module _ (w s : List ℕ) (x z : ℕ) where
       by : (b : Bool) → eqb (bitAnd (getD w (2 * x + 1) 0) (getD s (2 * z + 1) 0)) 0 ≡ b → Tells (not b) (Meet w x s z)
       by true q = meet-none e (eqb-true _ _ q)
       by false q = meet-high hw hs (eqb-false _ _ q)
+
+-- ---- a row that has all that another has
+
+pub covers : (w : List ℕ) (k a : ℕ) → bitAnd (getD w (2 * k) 0) (getD w (2 * a) 0) ≡ getD w (2 * k) 0
+    → bitAnd (getD w (2 * k + 1) 0) (getD w (2 * a + 1) 0) ≡ getD w (2 * k + 1) 0 → Covers w a k
+covers w k a lo hi y hy h = by (decLt y 64)
+  where
+    word : (x z i : ℕ) → bitAnd x z ≡ x → bit x i ≡ 1 → bit z i ≡ 1
+    word x z i e b = let c = bit-and x z i in let d : bit (bitAnd x z) i ≡ bit x i = ap (λ (u : ℕ). bit u i) e in omega (arith, bit-le z i)
+
+    by : Dec (y < 64) → Has w a y
+    by (yes l) = at-low w w k a w a y l ∙ word _ _ y lo (sym (at-low w w k a w k y l) ∙ h)
+    by (no l) =
+        let e : 64 + (y - 64) ≡ y = omega arith in
+        let i : y - 64 < 64 = omega arith in
+        ap (at w a) (sym e) ∙ at-high w w k a w a (y - 64) i ∙ word _ _ (y - 64) hi (sym (at-high w w k a w k (y - 64) i) ∙ ap (at w k) e ∙ h)
+
+-- ---- the next node of a row
+
+module _ (w : List ℕ) (a b n : ℕ) (hb : b < n) (hn : n ≤ 128) where
+  -- a bit of the low word, and of the high one
+  word-low : (z : ℕ) → z < 64 → at w a z ≡ bit (getD w (2 * a) 0) z
+  word-low z h = at-low w w a a w a z h
+
+  word-high : (z : ℕ) → 64 ≤ z → z < 128 → at w a z ≡ bit (getD w (2 * a + 1) 0) (z - 64)
+  word-high z h l =
+      let e : 64 + (z - 64) ≡ z = omega arith in
+      ap (at w a) (sym e) ∙ at-high w w a a w a (z - 64) (omega arith)
+
+  pub next-low : (r : ℕ) → Lowest (getD w (2 * a) 0) b r → r < 64 → Next w a b n (min r n)
+  next-low r o h =
+      record {
+        low = omega arith;
+        from = omega (arith, o .from);
+        here = λ l. (let e : min r n ≡ r = omega arith in rw e (word-low r h ∙ o .here h));
+        none = λ z g l q. o .none z g (omega arith) (sym (word-low z (omega arith)) ∙ q);
+      }
+
+  next-high : (c r : ℕ) → b ≤ c + 64 → ((z : ℕ) → b ≤ z → z < c + 64 → Has w a z → ⊥) → Lowest (getD w (2 * a + 1) 0) c r → Next w a b n (min (r + 64) n)
+  next-high c r g none o =
+      record {
+        low = omega arith;
+        from = omega (arith, o .from);
+        here = here;
+        none = λ z k l q. before z k l q (decLt z (c + 64));
+      }
+    where
+      here : min (r + 64) n < n → Has w a (min (r + 64) n)
+      here l =
+          let e : min (r + 64) n ≡ r + 64 = omega arith in
+          let f : r + 64 - 64 ≡ r = omega arith in
+          rw e (word-high (r + 64) (omega arith) (omega arith) ∙ ap (bit (getD w (2 * a + 1) 0)) f ∙ o .here (omega arith))
+
+      before : (z : ℕ) → b ≤ z → z < min (r + 64) n → Has w a z → Dec (z < c + 64) → ⊥
+      before z k l q (yes d) = none z k d q
+      before z k l q (no d) = o .none (z - 64) (omega arith) (omega arith) (sym (word-high z (omega arith) (omega arith)) ∙ q)
+
+  pub next-over : (i r : ℕ) → Lowest (getD w (2 * a) 0) b i → 64 ≤ i → b < 64 → Lowest (getD w (2 * a + 1) 0) 0 r → Next w a b n (min (r + 64) n)
+  next-over i r o h l = next-high 0 r (omega arith) (λ z k g q. o .none z k (omega arith) (sym (word-low z (omega arith)) ∙ q))
+
+  pub next-above : (r : ℕ) → 64 ≤ b → Lowest (getD w (2 * a + 1) 0) (b - 64) r → Next w a b n (min (r + 64) n)
+  next-above r h = next-high (b - 64) r (omega arith) (λ z k g q. omega arith)
 
 -- ---- every word
 

@@ -24,15 +24,19 @@ module _ (r w v u : List ℕ) (x k : ℕ) (g : Pouring r w v u x k) where
   up : (y : ℕ) → Has v x y ⊎ Then k r w x y → Has v x y ⊎ Then (k + 1) r w x y
   up y = ⊎-elim inl (λ t. inr (then-up r w x y k t))
 
-  pub pouring-skip : (Has r x k → ⊥) → Pouring r w v u x (k + 1)
-  pouring-skip ne = record { gives = λ y hy h. up y (g .gives y hy h); keeps = g .keeps; done = done; rest = g .rest }
+  -- the rows that row x does not name are passed over
+  pub pouring-jump : (j : ℕ) → k ≤ j → ((z : ℕ) → k ≤ z → z < j → Has r x z → ⊥) → Pouring r w v u x j
+  pouring-jump j h ne =
+      record {
+        gives = λ y hy p. ⊎-elim inl (λ t. inr (let l = t .1 in (t .0, omega arith, t .2, t .3))) (g .gives y hy p);
+        keeps = g .keeps;
+        done = λ c y hc hy p q. by c y hc hy p q (decLt c k);
+        rest = g .rest;
+      }
     where
-      done : (c y : ℕ) → c < k + 1 → y < 128 → Has r x c → Has w c y → Has u x y
-      done c y hc hy p q = by (decLt c k)
-        where
-          by : Dec (c < k) → Has u x y
-          by (yes h) = g .done c y h hy p q
-          by (no h) = let e : c ≡ k = omega arith in absurd (ne (rw e at p))
+      by : (c y : ℕ) → c < j → y < 128 → Has r x c → Has w c y → Dec (c < k) → Has u x y
+      by c y hc hy p q (yes l) = g .done c y l hy p q
+      by c y hc hy p q (no l) = absurd (ne c (omega arith) hc p)
 
   pub pouring-more : (z : List ℕ) → Has r x k → Poured w u z x k → Pouring r w v z x (k + 1)
   pouring-more z t o =
@@ -92,15 +96,18 @@ module _ (w v u : List ℕ) (a k : ℕ) (ha : a < 128) (g : Turning w v u a k) w
   wider : (x y : ℕ) → Has v x y ⊎ ((y ≡ a) × (x < k) × Has w a x) → Has v x y ⊎ ((y ≡ a) × (x < k + 1) × Has w a x)
   wider x y = ⊎-elim inl (λ t. inr (let h = t .1 in (t .0, omega arith, t .2)))
 
-  pub turning-skip : (Has w a k → ⊥) → Turning w v u a (k + 1)
-  turning-skip ne = record { gives = λ x y hy h. wider x y (g .gives x y hy h); keeps = g .keeps; done = done }
+  -- the rows that row a does not name are passed over
+  pub turning-jump : (j : ℕ) → k ≤ j → ((z : ℕ) → k ≤ z → z < j → Has w a z → ⊥) → Turning w v u a j
+  turning-jump j h ne =
+      record {
+        gives = λ x y hy p. ⊎-elim inl (λ t. inr (let l = t .1 in (t .0, omega arith, t .2))) (g .gives x y hy p);
+        keeps = g .keeps;
+        done = λ x hx p. by x hx p (decLt x k);
+      }
     where
-      done : (x : ℕ) → x < k + 1 → Has w a x → Has u x a
-      done x hx p = by (decLt x k)
-        where
-          by : Dec (x < k) → Has u x a
-          by (yes h) = g .done x h p
-          by (no h) = let e : x ≡ k = omega arith in absurd (ne (rw e at p))
+      by : (x : ℕ) → x < j → Has w a x → Dec (x < k) → Has u x a
+      by x hx p (yes l) = g .done x l p
+      by x hx p (no l) = absurd (ne x (omega arith) hx p)
 
   pub turning-put : (z : List ℕ) → Has w a k → Added u z k a → Turning w v z a (k + 1)
   turning-put z t o =

@@ -4,7 +4,7 @@ use mathlib.Core.Path.{_≡_}
 use mathlib.Core.Logic.{_⊎_}
 use mathlib.Core.List.{List}
 use Prim.Native.Nat.{ℕ, _≤_, _<_, min, max}
-use Rattle.reach.specs.Rows.{at, Has}
+use Rattle.reach.specs.Rows.{bit, at, Has}
 
 -- b is put into row a
 pub record Added (w v : List ℕ) (a b : ℕ) : Type 0 where
@@ -35,6 +35,20 @@ Sifted u w v a k = Mixed min u w v a k
 pub record Emptied (w v : List ℕ) (a : ℕ) : Type 0 where
   pub row : (y : ℕ) → y < 128 → Has v a y → ⊥
   pub rest : (x y : ℕ) → y < 128 → (x ≡ a → ⊥) → at v x y ≡ at w x y
+
+-- r is the least bit of x from b on, or 64 where there is none
+pub record Lowest (x b r : ℕ) : Type 0 where
+  pub low : r ≤ 64
+  pub from : b ≤ r
+  pub here : r < 64 → bit x r ≡ 1
+  pub none : (z : ℕ) → b ≤ z → z < r → bit x z ≡ 1 → ⊥
+
+-- r is the least node of row a from b on and below n, or n where it has none
+pub record Next (w : List ℕ) (a b n r : ℕ) : Type 0 where
+  pub low : r ≤ n
+  pub from : b ≤ r
+  pub here : r < n → Has w a r
+  pub none : (z : ℕ) → b ≤ z → z < r → Has w a z → ⊥
 
 -- r is the least node of row a below n, or n where it has none
 pub record Least (w : List ℕ) (a n r : ℕ) : Type 0 where

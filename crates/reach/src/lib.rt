@@ -1,11 +1,11 @@
 // Relations on at most 128 nodes as rows of bits, two 64-bit words a row; a set of nodes is one row.
 ghost use mathlib.Core.Path.{_≡_};
-ghost use Prim.Native.Nat.{_+_, _*_, _<_, _≤_};
+ghost use Prim.Native.Nat.{_+_, _*_, _<_, _≤_, min};
 ghost use lib.ListN.{length};
 ghost use Rattle.reach.specs.Rows.{Tells, Has, Holds, Low, Blank, Meet};
-ghost use Rattle.reach.specs.Touched.{Added, Removed, Poured, Sifted, Emptied, Least};
+ghost use Rattle.reach.specs.Touched.{Added, Removed, Poured, Sifted, Emptied, Lowest, Next, Least};
 ghost use Rattle.reach.specs.Whole.{Through, Then, Turned, From, To, Among, Away, Common, United, Without, Passed, Pouring, Turning};
-ghost use Rattle.reach.specs.Links.{Linked, Walked};
+ghost use Rattle.reach.specs.Links.{Linked, Walked, Vouches, Covers, Calm, Pulled, Settled, Begun};
 ghost use Rattle.listing.specs.Bytes.{countN, nodesOf, Whole};
 ghost use Rattle.order.specs.Walks.{Succ};
 
@@ -108,17 +108,58 @@ pub fn meet(w: &[u64], a: usize, s: &[u64], z: usize) -> bool
     w[i + 1] & s[j + 1] != 0
 }
 
+// The least bit of x from b on, or 64 where there is none.
+fn lowest(x: u64, b: usize) -> usize
+    requires { ⌜ b < 64 ⌝ }
+    ensures { λ r. ⌜ Lowest x b r ⌝ }
+{
+    let y = x >> b;
+    if y == 0 {
+        return 64;
+    }
+    b + u64::trailing_zeros(y) as usize
+}
+
+// The lesser of two numbers.
+fn lesser(x: usize, n: usize) -> usize
+    ensures { λ r. ⌜ r ≡ min x n ⌝ }
+{
+    if x < n {
+        return x;
+    }
+    n
+}
+
+// The least node of row a from b on and below n, or n where it has none.
+pub fn next(w: &[u64], a: usize, b: usize, n: usize) -> usize
+    requires { ⌜ (2 * a + 1 < length (now w)) × (b ≤ n) × (n ≤ 128) ⌝ }
+    ensures { λ r. ⌜ Next (now (w .entry)) a b n r ⌝ }
+{
+    if n <= b {
+        return n;
+    }
+    if has(w, a, b) {
+        return b;
+    }
+    let i = 2 * a;
+    let lo = w[i];
+    let hi = w[i + 1];
+    if b < 64 {
+        let r = lowest(lo, b);
+        if r < 64 {
+            return lesser(r, n);
+        }
+        return lesser(lowest(hi, 0) + 64, n);
+    }
+    lesser(lowest(hi, b - 64) + 64, n)
+}
+
 // The least node of row a below n, or n where it has none.
 pub fn least(w: &[u64], a: usize, n: usize) -> usize
     requires { ⌜ (2 * a + 1 < length (now w)) × (n ≤ 128) ⌝ }
     ensures { λ r. ⌜ Least (now (w .entry)) a n r ⌝ }
 {
-    for b in 0..n {
-        if has(w, a, b) {
-            return b;
-        }
-    }
-    n
+    next(w, a, 0, n)
 }
 
 // Keeps of w what u has too.
@@ -200,12 +241,100 @@ pub fn links(bytes: &[u8], w: &mut [u64; 256])
     }
 }
 
+// Puts what b reaches into row a, if b is a node of m.
+fn pull(n: usize, m: &[u64; 2], w: &mut [u64; 256], a: usize, b: u8)
+    requires { ⌜ (n ≤ 128) × (a < n) ⌝ }
+    ensures { λ _. ⌜ Pulled (now (m .entry)) (now (w .entry)) (now (w .exit)) n a b ⌝ }
+{
+    let y = listing::wide(b);
+    if n <= y {
+        return;
+    }
+    if !has(m, 0, y) {
+        return;
+    }
+    or_row(w, a, y);
+}
+
+// Puts into each row, from the last to the first, what its node's successors in m reach.
+fn sweep(bytes: &[u8], m: &[u64; 2], w: &mut [u64; 256])
+    requires { ⌜ Whole (now bytes) × Begun (nodesOf (now bytes)) (now m) (now w) (countN (now bytes)) ⌝ }
+    ensures { λ _. ⌜ Begun (nodesOf (now (bytes .entry))) (now (m .entry)) (now (w .exit)) (countN (now (bytes .entry))) ⌝ }
+{
+    let n = listing::node_count(bytes);
+    let mut a = n;
+    while 0 < a {
+        a -= 1;
+        pull(n, m, w, a, listing::first_at(bytes, a));
+        pull(n, m, w, a, listing::second_at(bytes, a));
+    }
+}
+
+// Whether row a has all that row k has.
+fn within(w: &[u64], k: usize, a: usize) -> bool
+    requires { ⌜ (2 * a + 1 < length (now w)) × (2 * k + 1 < length (now w)) ⌝ }
+    ensures { λ r. ⌜ Vouches r (Covers (now (w .entry)) a k) ⌝ }
+{
+    let i = 2 * k;
+    let j = 2 * a;
+    let lo = w[i];
+    let hi = w[i + 1];
+    if lo & w[j] != lo {
+        return false;
+    }
+    if hi & w[j + 1] != hi {
+        return false;
+    }
+    true
+}
+
+// Whether row a has all that b reaches, if b is a node of m.
+fn calm(n: usize, m: &[u64; 2], w: &[u64; 256], a: usize, b: u8) -> bool
+    requires { ⌜ (n ≤ 128) × (a < n) ⌝ }
+    ensures { λ r. ⌜ Vouches r (Calm (now (m .entry)) (now (w .entry)) n a b) ⌝ }
+{
+    let y = listing::wide(b);
+    if n <= y {
+        return true;
+    }
+    if !has(m, 0, y) {
+        return true;
+    }
+    within(w, y, a)
+}
+
+// Whether every row has all that its node's successors in m reach, so that no sweep would add anything.
+fn settled(bytes: &[u8], m: &[u64; 2], w: &[u64; 256]) -> bool
+    requires { ⌜ Whole (now bytes) ⌝ }
+    ensures { λ r. ⌜ Vouches r (Settled (nodesOf (now (bytes .entry))) (now (m .entry)) (now (w .entry)) (countN (now (bytes .entry)))) ⌝ }
+{
+    let n = listing::node_count(bytes);
+    for a in 0..n {
+        if !calm(n, m, w, a, listing::first_at(bytes, a)) {
+            return false;
+        }
+        if !calm(n, m, w, a, listing::second_at(bytes, a)) {
+            return false;
+        }
+    }
+    true
+}
+
+// How often walks are swept for before the rows are closed: a walk needs one sweep more for each link that leads back.
+const SWEEPS: usize = 8;
+
 // The walks of a listing that only nodes of m lie inside of.
 pub fn walks(bytes: &[u8], m: &[u64; 2], w: &mut [u64; 256])
     requires { ⌜ Whole (now bytes) ⌝ }
     ensures { λ _. ⌜ Holds (now (w .exit)) (countN (now (bytes .entry))) (Walked (nodesOf (now (bytes .entry))) (now (m .entry))) ⌝ }
 {
     links(bytes, w);
+    for i in 0..SWEEPS {
+        sweep(bytes, m, w);
+        if settled(bytes, m, w) {
+            return;
+        }
+    }
     close(listing::node_count(bytes), m, w);
 }
 
@@ -214,10 +343,10 @@ fn compose_row(n: usize, r: &[u64; 256], w: &[u64; 256], v: &mut [u64; 256], x: 
     requires { ⌜ (n ≤ 128) × (x < n) ⌝ }
     ensures { λ _. ⌜ Pouring (now (r .entry)) (now (w .entry)) (now (v .entry)) (now (v .exit)) x n ⌝ }
 {
-    for c in 0..n {
-        if has(r, x, c) {
-            pour(w, c, v, x);
-        }
+    let mut c = next(r, x, 0, n);
+    while c < n {
+        pour(w, c, v, x);
+        c = next(r, x, c + 1, n);
     }
 }
 
@@ -237,10 +366,10 @@ fn turn_row(n: usize, w: &[u64; 256], v: &mut [u64; 256], a: usize)
     requires { ⌜ (n ≤ 128) × (a < n) ⌝ }
     ensures { λ _. ⌜ Turning (now (w .entry)) (now (v .entry)) (now (v .exit)) a n ⌝ }
 {
-    for b in 0..n {
-        if has(w, a, b) {
-            put(v, b, a);
-        }
+    let mut b = next(w, a, 0, n);
+    while b < n {
+        put(v, b, a);
+        b = next(w, a, b + 1, n);
     }
 }
 

@@ -29,11 +29,8 @@ close-requires c κs = let w = c .before .before in (w .before .before .before .
 no-loops-requires : tie.Need-no-loops-requires
 no-loops-requires c κs = let h = c .before in (h .before .before .before .before .before .before .before .before .before .before .node-count .ensures .1, holds-low (h .close .ensures))
 
-compose-requires-2 : tie.Need-compose-requires-2
-compose-requires-2 c κs =
-    let h = c .before .before in
-    let n = h .before .before .before .before .before .before .before .before .before .before .before .before in
-    (n .node-count .ensures .1, holds-low (h .no-loops .ensures), low-at _ (n .node-count .ensures .0) (n .before .before .pre .2))
+come-rows-requires : tie.Need-come-rows-requires
+come-rows-requires c κs = search needs
 
 returns : tie.Need-returns
 returns c =
@@ -49,7 +46,7 @@ returns c =
     let e = n .node-count .ensures .0 in
     around-hold L (countN bytes) (sym (nodes-length bytes)) (k .pre .0 .few) _ (g .gather .ensures) _ _ (k .pre .1) (k .pre .2) _ _ _
     (leads-hold L (countN bytes) (sym (nodes-length bytes)) (k .pre .0 .few) _ (g .gather .ensures) _ _ (k .pre .1) (k .pre .2) _ _ _ (rw e at (t .turn .ensures)) (rw e at (w .compose .ensures)) (rw e at (h .close .ensures)))
-    (rw e at (h′ .no-loops .ensures)) (rw e at (c .compose2 .ensures))
+    (rw e at (h′ .no-loops .ensures)) (rw e at (c .come-rows .ensures))
 
 pub around-rows-spec : {M : Type 1} → statement M
 around-rows-spec =
@@ -61,5 +58,5 @@ around-rows-spec =
     compose-requires
     close-requires
     no-loops-requires
-    compose-requires-2
+    come-rows-requires
     returns)

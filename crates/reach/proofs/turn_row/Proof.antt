@@ -2,47 +2,51 @@
 use borrow.Author.Needs.{needs}
 use native.Mathlib.Omega.{arith}
 use mathlib.Core.Path.{_≡_}
-use mathlib.Core.Logic.{⊎-elim}
-use Prim.Native.Nat.{_≤_, _<_, _-_}
+use Prim.Native.Nat.{_+_, _≤_, _<_, _-_}
+use Rattle.reach.specs.Rows.{Has}
 use Rattle.reach.specs.Whole.{Turning}
-use Rattle.reach.proofs.Steps.{turning-none, turning-skip, turning-put}
+use Rattle.reach.proofs.Steps.{turning-none, turning-jump, turning-put}
 use Rattle.reach.proofs.turn_row.Statement.{statement}
 use Rattle.reach.proofs.turn_row.Tie as tie
 
 abbrev Inv-loop : tie.InvT-loop
-Inv-loop n w v₀ a b₀ v b = (b ≤ n) × Turning w v₀ v a b
+Inv-loop n w v₀ a b₀ v b = (b ≤ n) × Turning w v₀ v a b × (b < n → Has w a b)
 
 abbrev μ-loop : tie.MeasureT-loop
 μ-loop n w v₀ a b₀ v b = n - b
 
-loop-holds : tie.Need-loop-holds Inv-loop μ-loop
-loop-holds c = (search needs, turning-none _ _ _)
+next-requires : tie.Need-next-requires Inv-loop μ-loop
+next-requires c κs = search needs
 
-has-requires : tie.Need-has-requires Inv-loop μ-loop
-has-requires c κs = search needs
+loop-holds : tie.Need-loop-holds Inv-loop μ-loop
+loop-holds c =
+    let o = c .next .ensures in
+    let ha : c .before .before .args .a < 128 = omega arith in
+    (o .low, turning-jump _ _ _ _ _ ha (turning-none _ _ _) _ (o .from) (o .none), o .here)
 
 put-requires : tie.Need-put-requires Inv-loop μ-loop
 put-requires c κs = search needs
 
-add-b : tie.Need-add-b Inv-loop μ-loop
-add-b c = omega arith
+add-next : tie.Need-add-next Inv-loop μ-loop
+add-next c = omega arith
+
+next-requires-2 : tie.Need-next-requires-2 Inv-loop μ-loop
+next-requires-2 c κs = search needs
 
 loop-less : tie.Need-loop-less Inv-loop μ-loop
-loop-less c = omega arith
+loop-less c = omega (arith, c .next2 .ensures .from)
 
 loop-again : tie.Need-loop-again Inv-loop μ-loop
 loop-again c =
-    let inv = c .before .before .before .before .loop .inv in
-    let p = c .before .before .before .before .before .pre in
-    let ha : c .before .before .before .before .before .args .a < 128 = omega arith in
-    ⊎-elim
-    (λ q. (omega arith, rw (q .3) (turning-put _ _ _ _ _ ha (inv .1) _ (rw (q .0 .taken) at (c .before .has .ensures)) (q .2 .ensures))))
-    (λ q. (omega arith, rw (q .1) (turning-skip _ _ _ _ _ ha (inv .1) (rw (q .0 .left) at (c .before .has .ensures)))))
-    (c .if1 .came)
+    let o = c .next2 .ensures in
+    let t = c .before .before .before .before in
+    let inv = t .before .loop .inv in
+    let ha : t .before .before .before .before .args .a < 128 = omega arith in
+    (o .low, turning-jump _ _ _ _ _ ha (turning-put _ _ _ _ _ ha (inv .1) _ (inv .2 (t .loop-test .taken)) (c .before .before .put .ensures)) _ (o .from) (o .none), o .here)
 
 returns : tie.Need-returns Inv-loop μ-loop
 returns c =
-    let e : c .before .loop .b ≡ c .before .before .args .n = omega arith in
+    let e : c .before .loop .b ≡ c .before .before .before .before .args .n = omega arith in
     rw e at (c .before .loop .inv .1)
 
 pub turn-row-spec : {M : Type 1} → statement M
@@ -51,10 +55,11 @@ turn-row-spec =
     (tie.spec
     Inv-loop
     μ-loop
+    next-requires
     loop-holds
-    has-requires
     put-requires
-    add-b
+    add-next
+    next-requires-2
     loop-less
     loop-again
     returns)

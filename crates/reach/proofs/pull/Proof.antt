@@ -1,0 +1,33 @@
+-- `reach::pull` meets its contract. Assumes nothing.
+use Rattle.reach.proofs.Tells.{tells-yes}
+use Rattle.reach.proofs.Sweeps.{pulled-none, pulled-or}
+use borrow.Author.Needs.{needs}
+use Rattle.reach.proofs.pull.Statement.{statement}
+use Rattle.reach.proofs.pull.Tie as tie
+
+wide-requires : tie.Need-wide-requires
+wide-requires c κs = search needs
+
+returns : tie.Need-returns
+returns c = pulled-none _ _ _ _ _
+
+has-requires : tie.Need-has-requires
+has-requires c κs = search needs
+
+returns-2 : tie.Need-returns-2
+returns-2 c = pulled-none _ _ _ _ _
+
+or-row-requires : tie.Need-or-row-requires
+or-row-requires c κs = search needs
+
+returns-3 : tie.Need-returns-3
+returns-3 c =
+    let e = c .before .before in
+    let h = e .before in
+    let f = h .before .before in
+    let k = f .before .before in
+    rw (f .before .wide .ensures .0) at (pulled-or (k .args .m .now) _ _ (k .args .n) _ _ (f .if1 .left) (tells-yes _ (h .has .result) (e .if2 .left) (h .has .ensures)) (c .or-row .ensures))
+
+pub pull-spec : {M : Type 1} → statement M
+pull-spec =
+    tie.close (tie.spec wide-requires returns has-requires returns-2 or-row-requires returns-3)
