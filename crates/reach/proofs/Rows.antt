@@ -14,7 +14,7 @@ use lib.Bits.{bitOr, bitAnd, and-zero-l, or-zero-l}
 use lib.ListN.{length, getD, set, length-set, List·getD-eq-default}
 use lib.Seq.{getD-set-same, getD-set-other}
 use Rattle.reach.specs.Rows.{Tells, bit, at, Has, Blank, Meet}
-use Rattle.reach.specs.Touched.{Added, Removed, Mixed, Poured, Emptied, Lowest, Next}
+use Rattle.reach.specs.Touched.{Added, Removed, Mixed, Poured, Emptied, Lowest, Next, Alike}
 use Rattle.reach.specs.Whole.{Common, United, Without}
 use Rattle.reach.specs.Links.{Covers}
 use Rattle.reach.proofs.Bit.{hot, bitLess, bit-or, bit-and, bit-le, bit-less, bit-zero, common-bit, no-common, bit-hot-same, bit-hot-other}
@@ -309,6 +309,17 @@ covers w k a lo hi y hy h = by (decLt y 64)
         let e : 64 + (y - 64) ≡ y = omega arith in
         let i : y - 64 < 64 = omega arith in
         ap (at w a) (sym e) ∙ at-high w w k a w a (y - 64) i ∙ word _ _ (y - 64) hi (sym (at-high w w k a w k (y - 64) i) ∙ ap (at w k) e ∙ h)
+
+-- rows of the same words
+pub alike : (w : List ℕ) (x y : ℕ) → getD w (2 * x) 0 ≡ getD w (2 * y) 0 → getD w (2 * x + 1) 0 ≡ getD w (2 * y + 1) 0 → Alike w x y
+alike w x y lo hi z hz = by (decLt z 64)
+  where
+    by : Dec (z < 64) → at w x z ≡ at w y z
+    by (yes l) = at-low w w x y w x z l ∙ ap (λ (u : ℕ). bit u z) lo ∙ sym (at-low w w x y w y z l)
+    by (no l) =
+        let e : 64 + (z - 64) ≡ z = omega arith in
+        let i : z - 64 < 64 = omega arith in
+        ap (at w x) (sym e) ∙ at-high w w x y w x (z - 64) i ∙ ap (λ (u : ℕ). bit u (z - 64)) hi ∙ sym (at-high w w x y w y (z - 64) i) ∙ ap (at w y) e
 
 -- ---- the next node of a row
 

@@ -7,7 +7,7 @@ use Prim.Native.Nat.{ℕ, _+_, _≤_, _<_}
 use native.Mathlib.Omega.{arith}
 use native.Mathlib.Decide.{decLt, ℕ-discrete}
 use Rattle.reach.specs.Rows.{at, Has, Holds, Low, Blank}
-use Rattle.reach.specs.Touched.{Added, Poured}
+use Rattle.reach.specs.Touched.{Added, Poured, Alike}
 use Rattle.reach.specs.Whole.{Then, Pouring, Turned, Turning}
 use Rattle.reach.proofs.Rows.{poured-gives, poured-keeps, poured-brings}
 
@@ -79,6 +79,31 @@ composed-more n r w v u k c g = record { gives = gives; keeps = keeps }
         by : Dec (x ≡ k) → Has u x y
         by (yes e) = let t′ : Then n r w k y = rw e at t in rw e (g .done (t′ .0) y (t′ .1) hy (t′ .2) (t′ .3))
         by (no e) = g .rest x y hy e ∙ c .keeps x y (omega arith) hy t
+
+-- a row that is like an earlier one leads to the same
+pub composed-copy : (n : ℕ) (r w v u : List ℕ) (k y : ℕ) → n ≤ 128 → y < k → Alike r k y → Composed n r w v k → Poured v v u k y → Composed n r w u (k + 1)
+composed-copy n r w v u k y hn hy same c o = record { gives = gives; keeps = keeps }
+  where
+    gives : (x z : ℕ) → z < 128 → Has u x z → (x < k + 1) × Then n r w x z
+    gives x z hz h = by (ℕ-discrete x k)
+      where
+        old : Has v y z → Then n r w k z
+        old p = let t = c .gives y z hz p .1 in let l = t .1 in (t .0, t .1, same (t .0) (omega arith) ∙ t .2, t .3)
+
+        by : Dec (x ≡ k) → (x < k + 1) × Then n r w x z
+        by (yes e) =
+            ⊎-elim (λ p. let q = c .gives k z hz p .0 in absurd (omega arith)) (λ p. (omega arith, rw e (old p))) (poured-gives v v u k y z o hz (rw e at h))
+        by (no e) = let q = c .gives x z hz (sym (o .rest x z hz e) ∙ h) in let q₀ = q .0 in (omega arith, q .1)
+
+    keeps : (x z : ℕ) → x < k + 1 → z < 128 → Then n r w x z → Has u x z
+    keeps x z hx hz t = by (ℕ-discrete x k)
+      where
+        by : Dec (x ≡ k) → Has u x z
+        by (yes e) =
+            let t′ : Then n r w k z = rw e at t in
+            let l = t′ .1 in
+            rw e (poured-brings v v u k y z o hz (c .keeps y z hy hz (t′ .0, t′ .1, sym (same (t′ .0) (omega arith)) ∙ t′ .2, t′ .3)))
+        by (no e) = o .rest x z hz e ∙ c .keeps x z (omega arith) hz t
 
 pub composed-all : (n : ℕ) (r w v : List ℕ) → n ≤ 128 → Low n w → Composed n r w v n → Holds v n (Then n r w)
 composed-all n r w v hn l c =

@@ -55,3 +55,12 @@ pub record Least (w : List ℕ) (a n r : ℕ) : Type 0 where
   pub low : r ≤ n
   pub here : r < n → Has w a r
   pub none : (z : ℕ) → z < r → Has w a z → ⊥
+
+-- the rows x and y are the same
+abbrev pub Alike : List ℕ → ℕ → ℕ → Type 0
+Alike w x y = (z : ℕ) → z < 128 → at w x z ≡ at w y z
+
+-- y is a row before row x that is the same, or x
+pub record Earlier (w : List ℕ) (x y : ℕ) : Type 0 where
+  pub low : y ≤ x
+  pub same : y < x → Alike w x y

@@ -3,7 +3,7 @@ ghost use mathlib.Core.Path.{_≡_};
 ghost use Prim.Native.Nat.{_+_, _*_, _<_, _≤_, min};
 ghost use lib.ListN.{length};
 ghost use Rattle.reach.specs.Rows.{Tells, Has, Holds, Low, Blank, Meet};
-ghost use Rattle.reach.specs.Touched.{Added, Removed, Poured, Sifted, Emptied, Lowest, Next, Least};
+ghost use Rattle.reach.specs.Touched.{Added, Removed, Poured, Sifted, Emptied, Lowest, Next, Least, Alike, Earlier};
 ghost use Rattle.reach.specs.Whole.{Through, Then, Turned, From, To, Among, Away, Common, United, Without, Passed, Pouring, Turning};
 ghost use Rattle.reach.specs.Links.{Linked, Walked, Vouches, Covers, Calm, Pulled, Settled, Begun};
 ghost use Rattle.listing.specs.Bytes.{countN, nodesOf, Whole};
@@ -350,14 +350,52 @@ fn compose_row(n: usize, r: &[u64; 256], w: &[u64; 256], v: &mut [u64; 256], x: 
     }
 }
 
-// All that is two steps away, by r and then by w.
+// Whether the rows x and y are the same.
+fn alike(r: &[u64], x: usize, y: usize) -> bool
+    requires { ⌜ (2 * x + 1 < length (now r)) × (2 * y + 1 < length (now r)) ⌝ }
+    ensures { λ b. ⌜ Vouches b (Alike (now (r .entry)) x y) ⌝ }
+{
+    let i = 2 * x;
+    let j = 2 * y;
+    if r[i] != r[j] {
+        return false;
+    }
+    if r[i + 1] != r[j + 1] {
+        return false;
+    }
+    true
+}
+
+// How far back a row that is the same is looked for.
+const NEAR: usize = 12;
+
+// One of the rows before row x that is the same, or x where none that is near is.
+fn earlier(r: &[u64], x: usize) -> usize
+    requires { ⌜ 2 * x + 1 < length (now r) ⌝ }
+    ensures { λ y. ⌜ Earlier (now (r .entry)) x y ⌝ }
+{
+    let from = x - lesser(x, NEAR);
+    for y in from..x {
+        if alike(r, x, y) {
+            return y;
+        }
+    }
+    x
+}
+
+// All that is two steps away, by r and then by w. Equal rows of r give equal rows.
 pub fn compose(n: usize, r: &[u64; 256], w: &[u64; 256], v: &mut [u64; 256])
     requires { ⌜ (n ≤ 128) × Low n (now r) × Low n (now w) ⌝ }
     ensures { λ _. ⌜ Holds (now (v .exit)) n (Then n (now (r .entry)) (now (w .entry))) ⌝ }
 {
     clear(v);
     for x in 0..n {
-        compose_row(n, r, w, v, x);
+        let y = earlier(r, x);
+        if y < x {
+            or_row(v, x, y);
+        } else {
+            compose_row(n, r, w, v, x);
+        }
     }
 }
 

@@ -2,8 +2,9 @@
 use borrow.Author.Needs.{needs}
 use native.Mathlib.Omega.{arith}
 use mathlib.Core.Path.{_≡_}
+use mathlib.Core.Logic.{⊎-elim}
 use Prim.Native.Nat.{_≤_, _-_}
-use Rattle.reach.proofs.Steps.{Composed, composed-none, composed-more, composed-all}
+use Rattle.reach.proofs.Steps.{Composed, composed-none, composed-more, composed-copy, composed-all}
 use Rattle.reach.proofs.compose.Statement.{statement}
 use Rattle.reach.proofs.compose.Tie as tie
 
@@ -19,6 +20,12 @@ clear-requires c κs = search needs
 loop-holds : tie.Need-loop-holds Inv-loop μ-loop
 loop-holds c = (search needs, composed-none _ _ _ _ (c .clear .ensures))
 
+earlier-requires : tie.Need-earlier-requires Inv-loop μ-loop
+earlier-requires c κs = search needs
+
+or-row-requires : tie.Need-or-row-requires Inv-loop μ-loop
+or-row-requires c κs = omega (arith, c .before .before .earlier .ensures .low)
+
 compose-row-requires : tie.Need-compose-row-requires Inv-loop μ-loop
 compose-row-requires c κs = omega arith
 
@@ -29,7 +36,15 @@ loop-less : tie.Need-loop-less Inv-loop μ-loop
 loop-less c = omega arith
 
 loop-again : tie.Need-loop-again Inv-loop μ-loop
-loop-again c = (omega arith, composed-more _ _ _ _ _ _ (c .before .before .before .loop .inv .1) (c .compose-row .ensures))
+loop-again c =
+    let at = c .before .before .before .before in
+    let inv = at .loop .inv in
+    let k = at .before .before .before in
+    let o = c .before .earlier .ensures in
+    ⊎-elim
+    (λ q. (omega arith, rw (q .3) (composed-copy _ _ _ _ _ _ _ (k .pre .0) (q .0 .taken) (o .same (q .0 .taken)) (inv .1) (q .2 .ensures))))
+    (λ q. (omega arith, rw (q .3) (composed-more _ _ _ _ _ _ (inv .1) (q .2 .ensures))))
+    (c .if1 .came)
 
 returns : tie.Need-returns Inv-loop μ-loop
 returns c =
@@ -45,6 +60,8 @@ compose-spec =
     μ-loop
     clear-requires
     loop-holds
+    earlier-requires
+    or-row-requires
     compose-row-requires
     add-x
     loop-less
