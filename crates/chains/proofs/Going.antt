@@ -10,6 +10,7 @@ use native.Mathlib.Numerals.{add-one}
 use lib.ListN.{length, getD, set, take, drop, length-set}
 use lib.Seq.{take-suc-set, append-snoc, drop-set-lt, drop-drop}
 use Rattle.reach.specs.Rows.{Has}
+use Rattle.reach.specs.Touched.{Next}
 use Rattle.chains.specs.Levels.{AtLevel}
 use Rattle.chains.specs.Descent.{Nearest, Nearer, FirstMid, FirstEnd, Mid, End, Steep, stop, down, Leads, Downhill, Wrote, Descent}
 use Rattle.chains.proofs.Levels.{meet-hits, hits-meet}
@@ -34,6 +35,16 @@ nearest-more k v d x r q g e = record { low = low; here = ⊎-elim kept found (e
 
     found : Has v x k × (getD d k 0 ≡ q) → (q ≡ 255) ⊎ ((y : ℕ) × (y < k + 1) × Has v x y × (getD d y 0 ≡ q))
     found z = inr (k, omega arith, z .0, z .1)
+
+-- ---- the first of a row
+
+-- what the row has not got is not looked for
+pub passed-over : (P : ℕ → Type 0) (m : List ℕ) (x k n r : ℕ) → ((z : ℕ) → P z → Has m x z) → Next m x k n r → ((z : ℕ) → z < k → P z → ⊥) → (z : ℕ) → z < r → P z → ⊥
+passed-over P m x k n r f o g z l p = by (decLt z k)
+  where
+    by : Dec (z < k) → ⊥
+    by (yes d) = g z d p
+    by (no d) = o .none z (omega arith) l (f z p)
 
 -- ---- the descent
 

@@ -134,10 +134,12 @@ fn first_mid(n: usize, m: &[u64; 256], w: &[u64; 256], s: &[u64; 2], x: usize) -
     requires { ⌜ (n ≤ 128) × (x < n) × ((c : ℕ) × (c < n) × Has (now m) x c × Meet (now w) c (now s) 0) ⌝ }
     ensures { λ c. ⌜ FirstMid n (now (m .entry)) (now (w .entry)) (now (s .entry)) x c ⌝ }
 {
-    for c in 0..n {
+    let mut c = reach::next(m, x, 0, n);
+    while c < n {
         if is_mid(m, w, s, x, c) {
             return c;
         }
+        c = reach::next(m, x, c + 1, n);
     }
     0
 }
@@ -158,10 +160,12 @@ fn first_end(n: usize, w: &[u64; 256], s: &[u64; 2], c: usize) -> usize
     requires { ⌜ (n ≤ 128) × (c < n) × ((y : ℕ) × (y < n) × Has (now w) c y × Has (now s) 0 y) ⌝ }
     ensures { λ y. ⌜ FirstEnd n (now (w .entry)) (now (s .entry)) c y ⌝ }
 {
-    for y in 0..n {
+    let mut y = reach::next(w, c, 0, n);
+    while y < n {
         if is_end(w, s, c, y) {
             return y;
         }
+        y = reach::next(w, c, y + 1, n);
     }
     0
 }

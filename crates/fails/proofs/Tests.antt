@@ -48,6 +48,11 @@ pub told-no : (A : Type 0) (r : Bool) → not r ≡ true → Tells r A → A →
 told-no A true p h = λ a. subst T (sym p) tt
 told-no A false p h = h
 
+-- and what it says of an equal statement
+pub told-map : (A B : Type 0) (r : Bool) → (A → B) → (B → A) → Tells r A → Tells r B
+told-map A B true f g h = f h
+told-map A B false f g h = λ b. h (g b)
+
 -- A TEST TELLS ITS STATEMENT
 pub tells : {r : Bool} (b : Bool) → r ≡ b → Tells r (T b)
 tells {r} b e = subst (λ (x : Bool). Tells x (T b)) (sym e) (of b)

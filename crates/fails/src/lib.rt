@@ -90,8 +90,8 @@ fn meets_at(bytes: &[u8], s: &[u64; 2], x: usize, b: usize) -> bool
     requires { ⌜ Whole (now bytes) × (b < countN (now bytes)) × Members (now s) (countN (now bytes)) (Access (nodesOf (now bytes))) ⌝ }
     ensures { λ r. ⌜ Tells r (Access (nodesOf (now (bytes .entry))) b × T (overlap x (locAt (nodesOf (now (bytes .entry))) b))) ⌝ }
 {
-    if reach::has(s, 0, b) {
-        return order::meets(x, listing::location_at(bytes, b));
+    if order::meets(x, listing::location_at(bytes, b)) {
+        return reach::has(s, 0, b);
     }
     false
 }
@@ -110,15 +110,22 @@ fn fill_meetings(bytes: &[u8], s: &[u64; 2], m: &mut [u64; 256], a: usize)
     }
 }
 
-// An earlier one of the accesses s with a's location, or a where there is none.
+// How far back an access at the same location is looked for.
+const NEAR: usize = 12;
+
+// An earlier one of the accesses s with a's location, or a where none is near.
 fn twin(bytes: &[u8], s: &[u64; 2], a: usize) -> usize
     requires { ⌜ Whole (now bytes) × (a < countN (now bytes)) × Members (now s) (countN (now bytes)) (Access (nodesOf (now bytes))) ⌝ }
     ensures { λ r. ⌜ Twin (nodesOf (now (bytes .entry))) a r ⌝ }
 {
     let x = listing::location_at(bytes, a);
-    for b in 0..a {
-        if reach::has(s, 0, b) {
-            if listing::location_at(bytes, b) == x {
+    let mut from = 0;
+    if NEAR < a {
+        from = a - NEAR;
+    }
+    for b in from..a {
+        if listing::location_at(bytes, b) == x {
+            if reach::has(s, 0, b) {
                 return b;
             }
         }

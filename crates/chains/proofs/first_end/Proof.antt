@@ -4,6 +4,7 @@ use native.Mathlib.Omega.{arith}
 use Prim.Native.Nat.{ℕ, _≤_, _<_, _-_}
 use borrow.Author.Count.{below-none, below-more}
 use Rattle.reach.specs.Rows.{Has}
+use Rattle.chains.proofs.Going.{passed-over}
 use Rattle.chains.proofs.first_end.Statement.{statement}
 use Rattle.chains.proofs.first_end.Tie as tie
 
@@ -13,8 +14,11 @@ Inv-loop n w s c y₀ y = (y ≤ n) × ((z : ℕ) → z < y → Has w c z × Has
 abbrev μ-loop : tie.MeasureT-loop
 μ-loop n w s c y₀ y = n - y
 
+next-requires : tie.Need-next-requires Inv-loop μ-loop
+next-requires c κs = search needs
+
 loop-holds : tie.Need-loop-holds Inv-loop μ-loop
-loop-holds c = (search needs, below-none _)
+loop-holds c = (c .next .ensures .low, passed-over _ _ _ _ _ _ (λ z p. p .0) (c .next .ensures) (below-none _))
 
 is-end-requires : tie.Need-is-end-requires Inv-loop μ-loop
 is-end-requires c κs = search needs
@@ -22,18 +26,23 @@ is-end-requires c κs = search needs
 returns : tie.Need-returns Inv-loop μ-loop
 returns c = record { low = omega arith; here = rw (c .if1 .taken) at (c .before .is-end .ensures); none = c .before .before .before .before .before .loop .inv .1 }
 
-add-y : tie.Need-add-y Inv-loop μ-loop
-add-y c = omega arith
+add-next : tie.Need-add-next Inv-loop μ-loop
+add-next c = omega arith
+
+next-requires-2 : tie.Need-next-requires-2 Inv-loop μ-loop
+next-requires-2 c κs = search needs
 
 loop-less : tie.Need-loop-less Inv-loop μ-loop
-loop-less c = omega arith
+loop-less c = omega (arith, c .next2 .ensures .from)
 
 loop-again : tie.Need-loop-again Inv-loop μ-loop
-loop-again c = (omega arith, below-more _ _ (c .before .before .before .before .before .loop .inv .1) (rw (c .if1 .left) at (c .before .is-end .ensures)))
+loop-again c =
+    let e = c .before .before in
+    (c .next2 .ensures .low, passed-over _ _ _ _ _ _ (λ z p. p .0) (c .next2 .ensures) (below-more _ _ (e .before .before .before .before .before .loop .inv .1) (rw (e .if1 .left) at (e .before .is-end .ensures))))
 
 returns-2 : tie.Need-returns-2 Inv-loop μ-loop
 returns-2 c =
-    let h = c .before .before .pre .2 in
+    let h = c .before .before .before .before .pre .2 in
     let a = h .1 in
     absurd (c .before .loop .inv .1 (h .0) (omega arith) (h .2, h .3))
 
@@ -43,10 +52,12 @@ first-end-spec =
     (tie.spec
     Inv-loop
     μ-loop
+    next-requires
     loop-holds
     is-end-requires
     returns
-    add-y
+    add-next
+    next-requires-2
     loop-less
     loop-again
     returns-2)
