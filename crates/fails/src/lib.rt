@@ -111,7 +111,7 @@ fn fill_meetings(bytes: &[u8], s: &[u64; 2], m: &mut [u64; 256], a: usize)
 }
 
 // How far back an access at the same location is looked for.
-const NEAR: usize = 12;
+const NEAR: usize = 32;
 
 // An earlier one of the accesses s with a's location, or a where none is near.
 fn twin(bytes: &[u8], s: &[u64; 2], a: usize) -> usize
