@@ -7,9 +7,11 @@ ghost use Rattle.chains.specs.Far.{Far, Target};
 ghost use Rattle.chains.specs.Best.{Asked, Shown};
 ghost use Rattle.chains.specs.Levels.{Starts, Marked, AtLevel, Visited, Swept, Went};
 ghost use Rattle.chains.specs.Descent.{Nearest, Nearer, FirstMid, FirstEnd, Downhill, Wrote, Descent};
+use listing::Listing;
+use reach::WORDS;
 
 // The nodes at distance r, into the one row of s.
-fn level(n: usize, d: &[u8; 128], r: u8, s: &mut [u64; 2])
+fn level(n: usize, d: &[u8; Listing::NODES], r: u8, s: &mut [u64; 2])
     requires { ⌜ n ≤ 128 ⌝ }
     ensures { λ _. ⌜ AtLevel (now (d .entry)) r (now (s .exit)) n ⌝ }
 {
@@ -36,7 +38,7 @@ fn visit(w: &[u64], s: &[u64], d: &mut [u8], x: usize, r: u8) -> usize
 }
 
 // The same at every node: how many were given their distance.
-fn sweep(n: usize, w: &[u64; 256], s: &[u64; 2], d: &mut [u8; 128], r: u8) -> usize
+fn sweep(n: usize, w: &[u64; WORDS], s: &[u64; 2], d: &mut [u8; Listing::NODES], r: u8) -> usize
     requires { ⌜ (n ≤ 128) × (r < 254) ⌝ }
     ensures { λ c. ⌜ Swept n (now (w .entry)) (now (s .entry)) (now (d .entry)) (now (d .exit)) r c ⌝ }
 {
@@ -48,7 +50,7 @@ fn sweep(n: usize, w: &[u64; 256], s: &[u64; 2], d: &mut [u8; 128], r: u8) -> us
 }
 
 // Gives the distance r + 1 to all that have none and step to one at distance r: how many they are.
-fn round(n: usize, w: &[u64; 256], d: &mut [u8; 128], r: u8) -> usize
+fn round(n: usize, w: &[u64; WORDS], d: &mut [u8; Listing::NODES], r: u8) -> usize
     requires { ⌜ (n ≤ 128) × (r < 254) ⌝ }
     ensures { λ c. ⌜ Went n (now (w .entry)) (now (d .entry)) (now (d .exit)) r c ⌝ }
 {
@@ -75,13 +77,13 @@ fn mark(n: usize, t: &[u64], d: &mut [u8])
     requires { ⌜ (1 < length (now t)) × (length (now d) ≡ 128) ⌝ }
     ensures { λ _. ⌜ Marked n (now (t .entry)) (now (d .exit)) ⌝ }
 {
-    for x in 0..128 {
+    for x in 0..Listing::NODES {
         d[x] = start(n, t, x);
     }
 }
 
 // The least number of steps from each node to a node of t; 255 where there is no path.
-pub fn distances(n: usize, w: &[u64; 256], t: &[u64; 2], d: &mut [u8; 128])
+pub fn distances(n: usize, w: &[u64; WORDS], t: &[u64; 2], d: &mut [u8; Listing::NODES])
     requires { ⌜ n ≤ 128 ⌝ }
     ensures { λ _. ⌜ Far n (Link n (now (w .entry))) (Target n (now (t .entry))) (now (d .exit)) ⌝ }
 {
@@ -107,7 +109,7 @@ fn nearer(v: &[u64], d: &[u8], x: usize, y: usize, r: u8) -> u8
 }
 
 // The least distance among the nodes of row x; 255 where none has one.
-fn nearest(n: usize, v: &[u64; 256], d: &[u8; 128], x: usize) -> u8
+fn nearest(n: usize, v: &[u64; WORDS], d: &[u8; Listing::NODES], x: usize) -> u8
     requires { ⌜ (n ≤ 128) × (x < n) ⌝ }
     ensures { λ r. ⌜ Nearest n (now (v .entry)) (now (d .entry)) x r ⌝ }
 {
@@ -130,7 +132,7 @@ fn is_mid(m: &[u64], w: &[u64], s: &[u64], x: usize, c: usize) -> bool
 }
 
 // The least such c.
-fn first_mid(n: usize, m: &[u64; 256], w: &[u64; 256], s: &[u64; 2], x: usize) -> usize
+fn first_mid(n: usize, m: &[u64; WORDS], w: &[u64; WORDS], s: &[u64; 2], x: usize) -> usize
     requires { ⌜ (n ≤ 128) × (x < n) × ((c : ℕ) × (c < n) × Has (now m) x c × Meet (now w) c (now s) 0) ⌝ }
     ensures { λ c. ⌜ FirstMid n (now (m .entry)) (now (w .entry)) (now (s .entry)) x c ⌝ }
 {
@@ -156,7 +158,7 @@ fn is_end(w: &[u64], s: &[u64], c: usize, y: usize) -> bool
 }
 
 // The least such y.
-fn first_end(n: usize, w: &[u64; 256], s: &[u64; 2], c: usize) -> usize
+fn first_end(n: usize, w: &[u64; WORDS], s: &[u64; 2], c: usize) -> usize
     requires { ⌜ (n ≤ 128) × (c < n) × ((y : ℕ) × (y < n) × Has (now w) c y × Has (now s) 0 y) ⌝ }
     ensures { λ y. ⌜ FirstEnd n (now (w .entry)) (now (s .entry)) c y ⌝ }
 {
@@ -182,9 +184,9 @@ fn write_pair(out: &mut [u8], i: usize, c: u8, y: u8)
 // Goes down from x by the least pairs, as many as asked for, into the front of out.
 fn descend(
     n: usize,
-    m: &[u64; 256],
-    w: &[u64; 256],
-    d: &[u8; 128],
+    m: &[u64; WORDS],
+    w: &[u64; WORDS],
+    d: &[u8; Listing::NODES],
     x: usize,
     pairs: u8,
     out: &mut [u8],
@@ -211,12 +213,12 @@ fn descend(
 // Answers how many pairs it has, 0 where there is none. v and d are for the work.
 pub fn chain(
     n: usize,
-    m: &[u64; 256],
-    w: &[u64; 256],
+    m: &[u64; WORDS],
+    w: &[u64; WORDS],
     t: &[u64; 2],
     x: usize,
-    v: &mut [u64; 256],
-    d: &mut [u8; 128],
+    v: &mut [u64; WORDS],
+    d: &mut [u8; Listing::NODES],
     out: &mut [u8],
 ) -> usize
     requires { ⌜ Asked n (now m) (now w) (now out) x ⌝ }

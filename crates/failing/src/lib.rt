@@ -4,13 +4,14 @@ ghost use Rattle.listing.specs.Bytes.{countN, nodesOf};
 ghost use Rattle.order.specs.Verdict.{Fails};
 ghost use Rattle.reach.specs.Rows.{Tells};
 ghost use Rattle.failing.specs.First.{Prepared, SecondFailing, FirstFailing};
+use reach::WORDS;
 
 // Whether the pair (a, b) fails.
 pub fn fails_at(
     question: u8,
     bytes: &[u8],
-    c: &[u64; 256],
-    i: &[u64; 256],
+    c: &[u64; WORDS],
+    i: &[u64; WORDS],
     a: usize,
     b: usize,
 ) -> bool
@@ -38,7 +39,13 @@ pub fn fails_at(
 }
 
 // The least second node of a failing pair from a, or the number of nodes where none fails.
-pub fn second_failing(question: u8, bytes: &[u8], c: &[u64; 256], i: &[u64; 256], a: usize) -> usize
+pub fn second_failing(
+    question: u8,
+    bytes: &[u8],
+    c: &[u64; WORDS],
+    i: &[u64; WORDS],
+    a: usize,
+) -> usize
     requires { ⌜ Prepared question (now bytes) (now c) (now i) × (a < countN (now bytes)) ⌝ }
     ensures { λ r. ⌜ SecondFailing question (nodesOf (now (bytes .entry))) (countN (now (bytes .entry))) a r ⌝ }
 {
@@ -54,7 +61,7 @@ pub fn second_failing(question: u8, bytes: &[u8], c: &[u64; 256], i: &[u64; 256]
 }
 
 // The least first node of a failing pair, or the number of nodes where none fails.
-pub fn first_failing(question: u8, bytes: &[u8], c: &[u64; 256], i: &[u64; 256]) -> usize
+pub fn first_failing(question: u8, bytes: &[u8], c: &[u64; WORDS], i: &[u64; WORDS]) -> usize
     requires { ⌜ Prepared question (now bytes) (now c) (now i) ⌝ }
     ensures { λ r. ⌜ FirstFailing question (nodesOf (now (bytes .entry))) (countN (now (bytes .entry))) r ⌝ }
 {

@@ -13,6 +13,7 @@ ghost use Rattle.fails.specs.Growing.{RowGrown, RowsDone};
 ghost use Rattle.fails.specs.Failing.{Meeting, Twin, Clear, Exchanged, Ready};
 ghost use Rattle.fails.specs.Back.{ComesRound, RowRound, RowReturns};
 ghost use Rattle.fails.specs.Returning.{Copied, HomeEnds, Answered};
+use reach::WORDS;
 
 // Which nodes to gather.
 pub enum Pick {
@@ -50,7 +51,7 @@ fn gather(question: u8, bytes: &[u8], pick: Pick, s: &mut [u64; 2])
 }
 
 // The pairs: who walks to whom, among accesses.
-fn pair_rows(bytes: &[u8], p: &mut [u64; 256])
+fn pair_rows(bytes: &[u8], p: &mut [u64; WORDS])
     requires { ⌜ Whole (now bytes) ⌝ }
     ensures { λ _. ⌜ Holds (now (p .exit)) (countN (now (bytes .entry))) (Pair (nodesOf (now (bytes .entry)))) ⌝ }
 {
@@ -63,7 +64,7 @@ fn pair_rows(bytes: &[u8], p: &mut [u64; 256])
 }
 
 // Who walks to whom with no barrier inside.
-fn clear_rows(question: u8, bytes: &[u8], f: &mut [u64; 256])
+fn clear_rows(question: u8, bytes: &[u8], f: &mut [u64; WORDS])
     requires { ⌜ Whole (now bytes) ⌝ }
     ensures { λ _. ⌜ Holds (now (f .exit)) (countN (now (bytes .entry))) (Clear question (nodesOf (now (bytes .entry)))) ⌝ }
 {
@@ -73,13 +74,13 @@ fn clear_rows(question: u8, bytes: &[u8], f: &mut [u64; 256])
 }
 
 // Between which accesses some walk has an RMW inside.
-pub fn exchanged_rows(bytes: &[u8], p: &[u64; 256], i: &mut [u64; 256])
+pub fn exchanged_rows(bytes: &[u8], p: &[u64; WORDS], i: &mut [u64; WORDS])
     requires { ⌜ Whole (now bytes) × Holds (now p) (countN (now bytes)) (Pair (nodesOf (now bytes))) ⌝ }
     ensures { λ _. ⌜ Holds (now (i .exit)) (countN (now (bytes .entry))) (Exchanged (nodesOf (now (bytes .entry)))) ⌝ }
 {
     let n = listing::node_count(bytes);
     let mut rmws = [0u64; 2];
-    let mut to = [0u64; 256];
+    let mut to = [0u64; WORDS];
     gather(0, bytes, Pick::Exchange, &mut rmws);
     reach::columns(n, &rmws, p, &mut to);
     reach::compose(n, &to, p, i);
@@ -97,7 +98,7 @@ fn meets_at(bytes: &[u8], s: &[u64; 2], x: usize, b: usize) -> bool
 }
 
 // Whom the access a may meet, into row a of m.
-fn fill_meetings(bytes: &[u8], s: &[u64; 2], m: &mut [u64; 256], a: usize)
+fn fill_meetings(bytes: &[u8], s: &[u64; 2], m: &mut [u64; WORDS], a: usize)
     requires { ⌜ Whole (now bytes) × (a < countN (now bytes)) × Members (now s) (countN (now bytes)) (Access (nodesOf (now bytes))) × Access (nodesOf (now bytes)) a ⌝ }
     ensures { λ _. ⌜ RowGrown (Meeting (nodesOf (now (bytes .entry)))) (now (m .entry)) (now (m .exit)) a (countN (now (bytes .entry))) ⌝ }
 {
@@ -134,7 +135,7 @@ fn twin(bytes: &[u8], s: &[u64; 2], a: usize) -> usize
 }
 
 // Whom a may meet, into row a of m. Who stands at the same location meets the same.
-fn meet_row(bytes: &[u8], s: &[u64; 2], m: &mut [u64; 256], a: usize)
+fn meet_row(bytes: &[u8], s: &[u64; 2], m: &mut [u64; WORDS], a: usize)
     requires { ⌜ Whole (now bytes) × (a < countN (now bytes)) × Members (now s) (countN (now bytes)) (Access (nodesOf (now bytes))) × RowsDone (Meeting (nodesOf (now bytes))) (now m) a (countN (now bytes)) ⌝ }
     ensures { λ _. ⌜ RowGrown (Meeting (nodesOf (now (bytes .entry)))) (now (m .entry)) (now (m .exit)) a (countN (now (bytes .entry))) ⌝ }
 {
@@ -150,7 +151,7 @@ fn meet_row(bytes: &[u8], s: &[u64; 2], m: &mut [u64; 256], a: usize)
 }
 
 // Who may meet whom.
-fn meet_rows(bytes: &[u8], m: &mut [u64; 256])
+fn meet_rows(bytes: &[u8], m: &mut [u64; WORDS])
     requires { ⌜ Whole (now bytes) ⌝ }
     ensures { λ _. ⌜ Holds (now (m .exit)) (countN (now (bytes .entry))) (Meeting (nodesOf (now (bytes .entry)))) ⌝ }
 {
@@ -164,7 +165,14 @@ fn meet_rows(bytes: &[u8], m: &mut [u64; 256])
 }
 
 // The pairs from a whose end meets a node of row a of h, into row a of w.
-fn come_row(n: usize, p: &[u64; 256], m: &[u64; 256], h: &[u64; 256], w: &mut [u64; 256], a: usize)
+fn come_row(
+    n: usize,
+    p: &[u64; WORDS],
+    m: &[u64; WORDS],
+    h: &[u64; WORDS],
+    w: &mut [u64; WORDS],
+    a: usize,
+)
     requires { ⌜ (n ≤ 128) × (a < n) ⌝ }
     ensures { λ _. ⌜ RowGrown (RowRound (now (p .entry)) (now (m .entry)) (now (h .entry))) (now (w .entry)) (now (w .exit)) a n ⌝ }
 {
@@ -178,7 +186,7 @@ fn come_row(n: usize, p: &[u64; 256], m: &[u64; 256], h: &[u64; 256], w: &mut [u
 }
 
 // The same from every node.
-fn come_rows(n: usize, p: &[u64; 256], m: &[u64; 256], h: &[u64; 256], w: &mut [u64; 256])
+fn come_rows(n: usize, p: &[u64; WORDS], m: &[u64; WORDS], h: &[u64; WORDS], w: &mut [u64; WORDS])
     requires { ⌜ n ≤ 128 ⌝ }
     ensures { λ _. ⌜ Holds (now (w .exit)) n (RowRound (now (p .entry)) (now (m .entry)) (now (h .entry))) ⌝ }
 {
@@ -189,14 +197,14 @@ fn come_rows(n: usize, p: &[u64; 256], m: &[u64; 256], h: &[u64; 256], w: &mut [
 }
 
 // Which pairs come round to their first nodes: their end meets a node, other than the first, that leads back to it.
-fn around_rows(bytes: &[u8], p: &[u64; 256], m: &[u64; 256], w: &mut [u64; 256])
+fn around_rows(bytes: &[u8], p: &[u64; WORDS], m: &[u64; WORDS], w: &mut [u64; WORDS])
     requires { ⌜ Whole (now bytes) × Holds (now p) (countN (now bytes)) (Pair (nodesOf (now bytes))) × Holds (now m) (countN (now bytes)) (Meeting (nodesOf (now bytes))) ⌝ }
     ensures { λ _. ⌜ Holds (now (w .exit)) (countN (now (bytes .entry))) (ComesRound (nodesOf (now (bytes .entry)))) ⌝ }
 {
     let n = listing::node_count(bytes);
     let mut every = [0u64; 2];
-    let mut back = [0u64; 256];
-    let mut leads = [0u64; 256];
+    let mut back = [0u64; WORDS];
+    let mut leads = [0u64; WORDS];
     gather(0, bytes, Pick::Every, &mut every);
     reach::turn(n, p, &mut back);
     reach::compose(n, m, &back, &mut leads);
@@ -206,7 +214,7 @@ fn around_rows(bytes: &[u8], p: &[u64; 256], m: &[u64; 256], w: &mut [u64; 256])
 }
 
 // Row a of m, into the one row of s.
-pub fn copy_row(m: &[u64; 256], a: usize, s: &mut [u64; 2])
+pub fn copy_row(m: &[u64; WORDS], a: usize, s: &mut [u64; 2])
     requires { ⌜ a < 128 ⌝ }
     ensures { λ _. ⌜ Copied (now (m .entry)) a (now (s .exit)) ⌝ }
 {
@@ -215,7 +223,7 @@ pub fn copy_row(m: &[u64; 256], a: usize, s: &mut [u64; 2])
 }
 
 // The ends of the pairs from a that meet a or come round to it, into s.
-fn home_ends(p: &[u64; 256], m: &[u64; 256], w: &[u64; 256], a: usize, s: &mut [u64; 2])
+fn home_ends(p: &[u64; WORDS], m: &[u64; WORDS], w: &[u64; WORDS], a: usize, s: &mut [u64; 2])
     requires { ⌜ a < 128 ⌝ }
     ensures { λ _. ⌜ HomeEnds (now (p .entry)) (now (m .entry)) (now (w .entry)) a (now (s .exit)) ⌝ }
 {
@@ -242,7 +250,7 @@ fn keep_answered(n: usize, h: &mut [u64; 2], s: &mut [u64; 2])
 }
 
 // Puts the set s into row a.
-fn pour_set(s: &[u64; 2], c: &mut [u64; 256], a: usize)
+fn pour_set(s: &[u64; 2], c: &mut [u64; WORDS], a: usize)
     requires { ⌜ a < 128 ⌝ }
     ensures { λ _. ⌜ Poured (now (s .entry)) (now (c .entry)) (now (c .exit)) a 0 ⌝ }
 {
@@ -252,10 +260,10 @@ fn pour_set(s: &[u64; 2], c: &mut [u64; 256], a: usize)
 // Which ends return to a: those that come round, and those that meet a while another pair from a comes home.
 fn returns_row(
     n: usize,
-    p: &[u64; 256],
-    m: &[u64; 256],
-    w: &[u64; 256],
-    c: &mut [u64; 256],
+    p: &[u64; WORDS],
+    m: &[u64; WORDS],
+    w: &[u64; WORDS],
+    c: &mut [u64; WORDS],
     a: usize,
 )
     requires { ⌜ (n ≤ 128) × (a < n) × Low n (now m) × Low n (now w) ⌝ }
@@ -271,7 +279,13 @@ fn returns_row(
 }
 
 // Who returns.
-fn returns_rows(n: usize, p: &[u64; 256], m: &[u64; 256], w: &[u64; 256], c: &mut [u64; 256])
+fn returns_rows(
+    n: usize,
+    p: &[u64; WORDS],
+    m: &[u64; WORDS],
+    w: &[u64; WORDS],
+    c: &mut [u64; WORDS],
+)
     requires { ⌜ (n ≤ 128) × Low n (now m) × Low n (now w) ⌝ }
     ensures { λ _. ⌜ Holds (now (c .exit)) n (RowReturns n (now (p .entry)) (now (m .entry)) (now (w .entry))) ⌝ }
 {
@@ -282,7 +296,7 @@ fn returns_rows(n: usize, p: &[u64; 256], m: &[u64; 256], w: &[u64; 256], c: &mu
 }
 
 // Keeps of the rows c what f has too.
-fn narrow(f: &[u64; 256], c: &mut [u64; 256])
+fn narrow(f: &[u64; WORDS], c: &mut [u64; WORDS])
     ensures { λ _. ⌜ Common (now (f .entry)) (now (c .entry)) (now (c .exit)) ⌝ }
 {
     reach::keep_common(f, c);
@@ -292,16 +306,16 @@ fn narrow(f: &[u64; 256], c: &mut [u64; 256])
 pub fn suspects(
     question: u8,
     bytes: &[u8],
-    p: &mut [u64; 256],
-    m: &mut [u64; 256],
-    c: &mut [u64; 256],
+    p: &mut [u64; WORDS],
+    m: &mut [u64; WORDS],
+    c: &mut [u64; WORDS],
 )
     requires { ⌜ Whole (now bytes) ⌝ }
     ensures { λ _. ⌜ Ready question (now (bytes .entry)) (now (p .exit)) (now (m .exit)) (now (c .exit)) ⌝ }
 {
     let n = listing::node_count(bytes);
-    let mut w = [0u64; 256];
-    let mut f = [0u64; 256];
+    let mut w = [0u64; WORDS];
+    let mut f = [0u64; WORDS];
     pair_rows(bytes, p);
     meet_rows(bytes, m);
     around_rows(bytes, p, m, &mut w);

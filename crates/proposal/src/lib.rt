@@ -13,9 +13,10 @@ ghost use Rattle.proposal.specs.Marking.{MarkOf, Marked, Drawn};
 use listing::Listing;
 use listing::ReadAnswer;
 use patch::ProposeAnswer;
+use reach::WORDS;
 
 // 1 where a is the first node of a failing pair, and 0 where it is none.
-fn mark_of(question: u8, bytes: &[u8], c: &[u64; 256], i: &[u64; 256], a: usize) -> u8
+fn mark_of(question: u8, bytes: &[u8], c: &[u64; WORDS], i: &[u64; WORDS], a: usize) -> u8
     requires { ⌜ Prepared question (now bytes) (now c) (now i) × (a < countN (now bytes)) ⌝ }
     ensures { λ r. ⌜ MarkOf question (nodesOf (now (bytes .entry))) a r ⌝ }
 {
@@ -27,7 +28,7 @@ fn mark_of(question: u8, bytes: &[u8], c: &[u64; 256], i: &[u64; 256], a: usize)
 }
 
 // The mark of each node, at the start of `marks`.
-fn draw(question: u8, bytes: &[u8], c: &[u64; 256], i: &[u64; 256], marks: &mut [u8])
+fn draw(question: u8, bytes: &[u8], c: &[u64; WORDS], i: &[u64; WORDS], marks: &mut [u8])
     requires { ⌜ Prepared question (now bytes) (now c) (now i) × (countN (now bytes) ≤ length (now marks)) ⌝ }
     ensures { λ _. ⌜ Marked question (nodesOf (now (bytes .entry))) (now (marks .exit)) (countN (now (bytes .entry))) ⌝ }
 {
@@ -79,10 +80,10 @@ fn propose_for(question: u8, bytes: &[u8], map: &mut [u8]) -> ProposeAnswer
     requires { ⌜ (1 ≤ question) × (question ≤ 4) × Admitted (now bytes) ⌝ }
     ensures { λ r. ⌜ Proposing passed question (now (bytes .entry)) (now (map .entry)) (now (map .exit)) (proposeSays r) ⌝ }
 {
-    let mut p = [0u64; 256];
-    let mut m = [0u64; 256];
-    let mut c = [0u64; 256];
-    let mut i = [0u64; 256];
+    let mut p = [0u64; WORDS];
+    let mut m = [0u64; WORDS];
+    let mut c = [0u64; WORDS];
+    let mut i = [0u64; WORDS];
     let mut marks = [0u8; Listing::NODES];
     fails::suspects(question, bytes, &mut p, &mut m, &mut c);
     fails::exchanged_rows(bytes, &p, &mut i);

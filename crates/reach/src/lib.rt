@@ -8,6 +8,10 @@ ghost use Rattle.reach.specs.Whole.{Through, Then, Turned, From, To, Amo
 ghost use Rattle.reach.specs.Links.{Linked, Walked, Vouches, Covers, Calm, Pulled, Settled, Begun};
 ghost use Rattle.listing.specs.Bytes.{countN, nodesOf, Whole};
 ghost use Rattle.order.specs.Walks.{Succ};
+use listing::Listing;
+
+// The words of a relation: two a node, of as many nodes as a listing has at the most.
+pub const WORDS: usize = 2 * Listing::NODES;
 
 // Whether b stands in row a.
 pub fn has(w: &[u64], a: usize, b: usize) -> bool
@@ -194,7 +198,7 @@ pub fn take_away(u: &[u64], w: &mut [u64])
 }
 
 // Lets k lie inside: whoever reaches k reaches all that k reaches.
-fn pass(n: usize, w: &mut [u64; 256], k: usize)
+fn pass(n: usize, w: &mut [u64; WORDS], k: usize)
     requires { ⌜ (n ≤ 128) × (k < n) ⌝ }
     ensures { λ _. ⌜ Passed (now (w .entry)) (now (w .exit)) n k ⌝ }
 {
@@ -206,7 +210,7 @@ fn pass(n: usize, w: &mut [u64; 256], k: usize)
 }
 
 // Turns links into walks that only nodes of m lie inside of.
-pub fn close(n: usize, m: &[u64; 2], w: &mut [u64; 256])
+pub fn close(n: usize, m: &[u64; 2], w: &mut [u64; WORDS])
     requires { ⌜ (n ≤ 128) × Low n (now w) ⌝ }
     ensures { λ _. ⌜ Holds (now (w .exit)) n (Through n (now (w .entry)) (now (m .entry))) ⌝ }
 {
@@ -229,7 +233,7 @@ fn link(n: usize, w: &mut [u64], a: usize, b: u8)
 }
 
 // The links of a listing.
-pub fn links(bytes: &[u8], w: &mut [u64; 256])
+pub fn links(bytes: &[u8], w: &mut [u64; WORDS])
     requires { ⌜ Whole (now bytes) ⌝ }
     ensures { λ _. ⌜ Holds (now (w .exit)) (countN (now (bytes .entry))) (Succ (nodesOf (now (bytes .entry)))) ⌝ }
 {
@@ -242,7 +246,7 @@ pub fn links(bytes: &[u8], w: &mut [u64; 256])
 }
 
 // Puts what b reaches into row a, if b is a node of m.
-fn pull(n: usize, m: &[u64; 2], w: &mut [u64; 256], a: usize, b: u8)
+fn pull(n: usize, m: &[u64; 2], w: &mut [u64; WORDS], a: usize, b: u8)
     requires { ⌜ (n ≤ 128) × (a < n) ⌝ }
     ensures { λ _. ⌜ Pulled (now (m .entry)) (now (w .entry)) (now (w .exit)) n a b ⌝ }
 {
@@ -257,7 +261,7 @@ fn pull(n: usize, m: &[u64; 2], w: &mut [u64; 256], a: usize, b: u8)
 }
 
 // Puts into each row, from the last to the first, what its node's successors in m reach.
-fn sweep(bytes: &[u8], m: &[u64; 2], w: &mut [u64; 256])
+fn sweep(bytes: &[u8], m: &[u64; 2], w: &mut [u64; WORDS])
     requires { ⌜ Whole (now bytes) × Begun (nodesOf (now bytes)) (now m) (now w) (countN (now bytes)) ⌝ }
     ensures { λ _. ⌜ Begun (nodesOf (now (bytes .entry))) (now (m .entry)) (now (w .exit)) (countN (now (bytes .entry))) ⌝ }
 {
@@ -289,7 +293,7 @@ fn within(w: &[u64], k: usize, a: usize) -> bool
 }
 
 // Whether row a has all that b reaches, if b is a node of m.
-fn calm(n: usize, m: &[u64; 2], w: &[u64; 256], a: usize, b: u8) -> bool
+fn calm(n: usize, m: &[u64; 2], w: &[u64; WORDS], a: usize, b: u8) -> bool
     requires { ⌜ (n ≤ 128) × (a < n) ⌝ }
     ensures { λ r. ⌜ Vouches r (Calm (now (m .entry)) (now (w .entry)) n a b) ⌝ }
 {
@@ -304,7 +308,7 @@ fn calm(n: usize, m: &[u64; 2], w: &[u64; 256], a: usize, b: u8) -> bool
 }
 
 // Whether every row has all that its node's successors in m reach, so that no sweep would add anything.
-fn settled(bytes: &[u8], m: &[u64; 2], w: &[u64; 256]) -> bool
+fn settled(bytes: &[u8], m: &[u64; 2], w: &[u64; WORDS]) -> bool
     requires { ⌜ Whole (now bytes) ⌝ }
     ensures { λ r. ⌜ Vouches r (Settled (nodesOf (now (bytes .entry))) (now (m .entry)) (now (w .entry)) (countN (now (bytes .entry)))) ⌝ }
 {
@@ -324,7 +328,7 @@ fn settled(bytes: &[u8], m: &[u64; 2], w: &[u64; 256]) -> bool
 const SWEEPS: usize = 8;
 
 // The walks of a listing that only nodes of m lie inside of.
-pub fn walks(bytes: &[u8], m: &[u64; 2], w: &mut [u64; 256])
+pub fn walks(bytes: &[u8], m: &[u64; 2], w: &mut [u64; WORDS])
     requires { ⌜ Whole (now bytes) ⌝ }
     ensures { λ _. ⌜ Holds (now (w .exit)) (countN (now (bytes .entry))) (Walked (nodesOf (now (bytes .entry))) (now (m .entry))) ⌝ }
 {
@@ -339,7 +343,7 @@ pub fn walks(bytes: &[u8], m: &[u64; 2], w: &mut [u64; 256])
 }
 
 // Puts into row x of v what is two steps away, by r and then by w.
-fn compose_row(n: usize, r: &[u64; 256], w: &[u64; 256], v: &mut [u64; 256], x: usize)
+fn compose_row(n: usize, r: &[u64; WORDS], w: &[u64; WORDS], v: &mut [u64; WORDS], x: usize)
     requires { ⌜ (n ≤ 128) × (x < n) ⌝ }
     ensures { λ _. ⌜ Pouring (now (r .entry)) (now (w .entry)) (now (v .entry)) (now (v .exit)) x n ⌝ }
 {
@@ -384,7 +388,7 @@ fn earlier(r: &[u64], x: usize) -> usize
 }
 
 // All that is two steps away, by r and then by w. Equal rows of r give equal rows.
-pub fn compose(n: usize, r: &[u64; 256], w: &[u64; 256], v: &mut [u64; 256])
+pub fn compose(n: usize, r: &[u64; WORDS], w: &[u64; WORDS], v: &mut [u64; WORDS])
     requires { ⌜ (n ≤ 128) × Low n (now r) × Low n (now w) ⌝ }
     ensures { λ _. ⌜ Holds (now (v .exit)) n (Then n (now (r .entry)) (now (w .entry))) ⌝ }
 {
@@ -400,7 +404,7 @@ pub fn compose(n: usize, r: &[u64; 256], w: &[u64; 256], v: &mut [u64; 256])
 }
 
 // Puts a into each row of v that row a of w names.
-fn turn_row(n: usize, w: &[u64; 256], v: &mut [u64; 256], a: usize)
+fn turn_row(n: usize, w: &[u64; WORDS], v: &mut [u64; WORDS], a: usize)
     requires { ⌜ (n ≤ 128) × (a < n) ⌝ }
     ensures { λ _. ⌜ Turning (now (w .entry)) (now (v .entry)) (now (v .exit)) a n ⌝ }
 {
@@ -412,7 +416,7 @@ fn turn_row(n: usize, w: &[u64; 256], v: &mut [u64; 256], a: usize)
 }
 
 // The relation turned round.
-pub fn turn(n: usize, w: &[u64; 256], v: &mut [u64; 256])
+pub fn turn(n: usize, w: &[u64; WORDS], v: &mut [u64; WORDS])
     requires { ⌜ (n ≤ 128) × Low n (now w) ⌝ }
     ensures { λ _. ⌜ Holds (now (v .exit)) n (Turned (now (w .entry))) ⌝ }
 {
@@ -423,7 +427,7 @@ pub fn turn(n: usize, w: &[u64; 256], v: &mut [u64; 256])
 }
 
 // Keeps what ends in s.
-pub fn keep_columns(n: usize, s: &[u64; 2], w: &mut [u64; 256])
+pub fn keep_columns(n: usize, s: &[u64; 2], w: &mut [u64; WORDS])
     requires { ⌜ (n ≤ 128) × Low n (now w) ⌝ }
     ensures { λ _. ⌜ Holds (now (w .exit)) n (To (now (s .entry)) (now (w .entry))) ⌝ }
 {
@@ -433,7 +437,7 @@ pub fn keep_columns(n: usize, s: &[u64; 2], w: &mut [u64; 256])
 }
 
 // Keeps what starts in s.
-pub fn keep_rows(n: usize, s: &[u64; 2], w: &mut [u64; 256])
+pub fn keep_rows(n: usize, s: &[u64; 2], w: &mut [u64; WORDS])
     requires { ⌜ (n ≤ 128) × Low n (now w) ⌝ }
     ensures { λ _. ⌜ Holds (now (w .exit)) n (From (now (s .entry)) (now (w .entry))) ⌝ }
 {
@@ -445,7 +449,7 @@ pub fn keep_rows(n: usize, s: &[u64; 2], w: &mut [u64; 256])
 }
 
 // Keeps what starts and ends in s.
-pub fn restrict(n: usize, s: &[u64; 2], w: &mut [u64; 256])
+pub fn restrict(n: usize, s: &[u64; 2], w: &mut [u64; WORDS])
     requires { ⌜ (n ≤ 128) × Low n (now w) ⌝ }
     ensures { λ _. ⌜ Holds (now (w .exit)) n (Among (now (s .entry)) (now (w .entry))) ⌝ }
 {
@@ -454,7 +458,7 @@ pub fn restrict(n: usize, s: &[u64; 2], w: &mut [u64; 256])
 }
 
 // What ends in s, into v.
-pub fn columns(n: usize, s: &[u64; 2], w: &[u64; 256], v: &mut [u64; 256])
+pub fn columns(n: usize, s: &[u64; 2], w: &[u64; WORDS], v: &mut [u64; WORDS])
     requires { ⌜ (n ≤ 128) × Low n (now w) ⌝ }
     ensures { λ _. ⌜ Holds (now (v .exit)) n (To (now (s .entry)) (now (w .entry))) ⌝ }
 {
@@ -464,7 +468,7 @@ pub fn columns(n: usize, s: &[u64; 2], w: &[u64; 256], v: &mut [u64; 256])
 }
 
 // Keeps what leads elsewhere.
-pub fn no_loops(n: usize, w: &mut [u64; 256])
+pub fn no_loops(n: usize, w: &mut [u64; WORDS])
     requires { ⌜ (n ≤ 128) × Low n (now w) ⌝ }
     ensures { λ _. ⌜ Holds (now (w .exit)) n (Away (now (w .entry))) ⌝ }
 {

@@ -6,7 +6,9 @@ ghost use Rattle.listing.specs.Bytes.{countN, nodesOf};
 ghost use Rattle.listing.specs.Read.{Admitted};
 ghost use Rattle.verdict.specs.Judging.{CHAIN, wrongQuestion, judgeSays, Told, JudgePromise};
 ghost use Rattle.verdict.specs.Showing.{Chained, Followed, Showed};
+use listing::Listing;
 use listing::ReadAnswer;
+use reach::WORDS;
 
 // What judging answers.
 pub enum JudgeAnswer {
@@ -41,8 +43,8 @@ pub fn wrong_question(question: u64) -> bool
 // Puts the pairs that follow (a, b) on its chain at the buffer's start, and says how many there are. (a, b) is taken out of the pairs.
 fn follow(
     bytes: &[u8],
-    p: &mut [u64; 256],
-    m: &[u64; 256],
+    p: &mut [u64; WORDS],
+    m: &[u64; WORDS],
     a: usize,
     b: usize,
     out: &mut [u8],
@@ -54,16 +56,16 @@ fn follow(
     let mut ends = [0u64; 2];
     fails::copy_row(m, a, &mut ends);
     reach::take_out(p, a, b);
-    let mut v = [0u64; 256];
-    let mut d = [0u8; 128];
+    let mut v = [0u64; WORDS];
+    let mut d = [0u8; Listing::NODES];
     chains::chain(n, m, p, &ends, b, &mut v, &mut d, out)
 }
 
 // Puts the chain of (a, b) at the buffer's start, and says how many pairs it has.
 fn show_chain(
     bytes: &[u8],
-    p: &mut [u64; 256],
-    m: &[u64; 256],
+    p: &mut [u64; WORDS],
+    m: &[u64; WORDS],
     a: usize,
     b: usize,
     out: &mut [u8],
@@ -81,10 +83,10 @@ pub fn decide(question: u8, bytes: &[u8], chain: &mut [u8]) -> JudgeAnswer
     requires { ⌜ (1 ≤ question) × (question ≤ 4) × Admitted (now bytes) × (CHAIN ≤ length (now chain)) ⌝ }
     ensures { λ r. ⌜ Told question (nodesOf (now (bytes .entry))) (now (chain .entry)) (now (chain .exit)) (judgeSays r) ⌝ }
 {
-    let mut p = [0u64; 256];
-    let mut m = [0u64; 256];
-    let mut c = [0u64; 256];
-    let mut i = [0u64; 256];
+    let mut p = [0u64; WORDS];
+    let mut m = [0u64; WORDS];
+    let mut c = [0u64; WORDS];
+    let mut i = [0u64; WORDS];
     fails::suspects(question, bytes, &mut p, &mut m, &mut c);
     fails::exchanged_rows(bytes, &p, &mut i);
     let n = listing::node_count(bytes);
