@@ -10,7 +10,7 @@ use Rattle.listing.specs.Node.{Listing}
 use Rattle.order.specs.Rows.{All}
 use Rattle.order.specs.Walks.{Walk}
 use Rattle.reach.specs.Rows.{Has, Holds, Members}
-use Rattle.reach.specs.Whole.{Then, Turned, From, To, Among, Away, Common, United, Without}
+use Rattle.reach.specs.Whole.{Then, Turned, From, To, Among, Away, Common, United}
 use Rattle.reach.specs.Links.{Walked}
 use Rattle.reach.proofs.Holds.{holds-map}
 
@@ -41,16 +41,6 @@ module _ {n : ℕ} (hn : n ≤ 128) where
               (c .gives a b hb h);
           whole = λ a b ha hb p.
               ⊎-elim (λ q. c .keeps a b (omega arith) (hw .whole a b ha hb q)) (λ q. c .brings a b (omega arith) (hu .whole a b ha hb q)) p;
-        }
-
-    pub holds-without : Without u w v → Holds v n (λ a b. B a b × (A a b → ⊥))
-    holds-without c =
-        record {
-          sound = λ a b hb h. (
-              let g = c .gives a b hb h in
-              let r = hw .sound a b hb (g .0) in
-              (r .0, r .1, (r .2, λ q. g .1 (hu .whole a b (r .0) (r .1) q))));
-          whole = λ a b ha hb p. c .keeps a b (omega arith) (hw .whole a b ha hb (p .0)) (λ q. p .1 (has-of hu a b hb q));
         }
 
     pub holds-then : Holds v n (Then n u w) → Holds v n (λ a b. (c : ℕ) × (c < n) × A a c × B c b)

@@ -15,7 +15,7 @@ use lib.ListN.{length, getD, set, length-set, List·getD-eq-default}
 use lib.Seq.{getD-set-same, getD-set-other}
 use Rattle.reach.specs.Rows.{Tells, bit, at, Has, Blank, Meet}
 use Rattle.reach.specs.Touched.{Added, Removed, Mixed, Poured, Emptied, Lowest, Next, Alike}
-use Rattle.reach.specs.Whole.{Common, United, Without}
+use Rattle.reach.specs.Whole.{Common, United}
 use Rattle.reach.specs.Links.{Covers}
 use Rattle.reach.proofs.Bit.{hot, bitLess, bit-or, bit-and, bit-le, bit-less, bit-zero, common-bit, no-common, bit-hot-same, bit-hot-other}
 
@@ -397,16 +397,6 @@ module _ (u w v : List ℕ) (eu : length u ≡ length w) (ev : length v ≡ leng
           by : Dec (at w a b ≡ 1) → Has w a b ⊎ Has u a b
           by (yes e) = inl e
           by (no e) = inr (omega (arith, of a b, at-le w a b, at-le u a b))
-
-  pub without : ((j : ℕ) → j < length w → getD v j 0 ≡ bitLess (getD w j 0) (getD u j 0)) → Without u w v
-  without each =
-      record {
-        gives = λ a b hb h. (omega (arith, of a b, at-le w a b, at-le u a b), λ q. omega (arith, of a b, at-le w a b));
-        keeps = λ a b hb p ne. omega (arith, of a b, at-le u a b);
-      }
-    where
-      of : (a b : ℕ) → at v a b ≡ at w a b - at u a b
-      of = wordwise bitLess _-_ bit-less u w v eu ev refl each
 
 -- a list of which the words below i are combined with those of u, and the others are as they were
 pub record Done (op : ℕ → ℕ → ℕ) (u w v : List ℕ) (i : ℕ) : Type 0 where

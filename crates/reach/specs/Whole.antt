@@ -46,11 +46,6 @@ pub record United (u w v : List ℕ) : Type 0 where
   pub keeps : (a b : ℕ) → b < 128 → Has w a b → Has v a b
   pub brings : (a b : ℕ) → b < 128 → Has u a b → Has v a b
 
--- what w has and u has not
-pub record Without (u w v : List ℕ) : Type 0 where
-  pub gives : (a b : ℕ) → b < 128 → Has v a b → Has w a b × (Has u a b → ⊥)
-  pub keeps : (a b : ℕ) → b < 128 → Has w a b → (Has u a b → ⊥) → Has v a b
-
 -- k may now lie inside: one round of Warshall's, over the rows below n
 pub record Passed (w v : List ℕ) (n k : ℕ) : Type 0 where
   pub gives : (x y : ℕ) → y < 128 → Has v x y → Has w x y ⊎ (Has w x k × Has w k y)

@@ -4,7 +4,7 @@ ghost use Prim.Native.Nat.{_+_, _*_, _<_, _≤_, min};
 ghost use lib.ListN.{length};
 ghost use Rattle.reach.specs.Rows.{Tells, Has, Holds, Low, Blank, Meet};
 ghost use Rattle.reach.specs.Touched.{Added, Removed, Poured, Sifted, Emptied, Lowest, Next, Least, Alike, Earlier};
-ghost use Rattle.reach.specs.Whole.{Through, Then, Turned, From, To, Among, Away, Common, United, Without, Passed, Pouring, Turning};
+ghost use Rattle.reach.specs.Whole.{Through, Then, Turned, From, To, Among, Away, Common, United, Passed, Pouring, Turning};
 ghost use Rattle.reach.specs.Links.{Linked, Walked, Vouches, Covers, Calm, Pulled, Settled, Begun};
 ghost use Rattle.listing.specs.Bytes.{countN, nodesOf, Whole};
 ghost use Rattle.order.specs.Walks.{Succ};
@@ -183,17 +183,6 @@ pub fn add_all(u: &[u64], w: &mut [u64])
 {
     for i in 0..w.len() {
         w[i] = w[i] | u[i];
-    }
-}
-
-// Takes from w what u has.
-pub fn take_away(u: &[u64], w: &mut [u64])
-    requires { ⌜ length (now u) ≡ length (now w) ⌝ }
-    ensures { λ _. ⌜ Without (now (u .entry)) (now (w .entry)) (now (w .exit)) ⌝ }
-{
-    for i in 0..w.len() {
-        let x = w[i];
-        w[i] = x ^ (x & u[i]);
     }
 }
 
