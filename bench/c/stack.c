@@ -74,6 +74,9 @@ int main(void) {
             }
     }
     for (service = 1; service < 6; service++)
-        printf("%s: %zu bytes of stack\n", names[service], deepest[service] - deepest[0]);
+        if (deepest[service] < deepest[0])
+            printf("%s: less stack than an empty thread touches\n", names[service]);
+        else
+            printf("%s: %zu bytes of stack\n", names[service], deepest[service] - deepest[0]);
     return 0;
 }
