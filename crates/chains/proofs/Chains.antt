@@ -1,5 +1,4 @@
 -- Going down by the least pairs gives the least of the shortest chains, and there is only one such chain.
--- Assumes nothing.
 use mathlib.Core.Path.{_≡_, refl, sym, ap, _∙_}
 use mathlib.Core.Logic.{_⊎_, ⊎-elim}
 use mathlib.Core.List.{List, _∷_, _++_}

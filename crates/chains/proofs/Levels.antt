@@ -1,5 +1,4 @@
 -- The rounds of a breadth-first search, one distance a round, give the least lengths of paths.
--- Assumes nothing.
 use mathlib.Core.Path.{_≡_, refl, ap, _∙_}
 use mathlib.Core.Logic.{_⊎_, inl, inr, ⊎-elim}
 use mathlib.Core.List.{List}

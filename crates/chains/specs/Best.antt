@@ -1,5 +1,4 @@
 -- Chains of pairs: a hop by one relation and a pair by another, over and over, to a target; and the least of the shortest.
--- Assumes nothing.
 use mathlib.Core.Path.{_≡_}
 use mathlib.Core.List.{List, [], _∷_}
 use Prim.Native.Nat.{ℕ, _*_, _≤_, _<_}

@@ -1,5 +1,4 @@
 -- Going down by the least pairs: what each step finds and writes.
--- Assumes nothing.
 use mathlib.Core.Path.{_≡_}
 use mathlib.Core.Logic.{_⊎_}
 use mathlib.Core.List.{List, [], _∷_}

@@ -1,5 +1,4 @@
 -- Paths by a relation to a set of targets, and their least lengths.
--- Assumes nothing.
 use mathlib.Core.Path.{_≡_}
 use mathlib.Core.Logic.{_⊎_}
 use mathlib.Core.List.{List}

@@ -1,5 +1,4 @@
 -- What the rounds of the search for distances do: d before, e after, one distance a round.
--- Assumes nothing.
 use mathlib.Core.Path.{_≡_}
 use mathlib.Core.Logic.{_⊎_}
 use mathlib.Core.Bool.{Bool, true, false}

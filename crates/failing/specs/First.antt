@@ -1,5 +1,4 @@
 -- The search for the first failing pair: what it is given, and what it finds.
--- Assumes nothing.
 use mathlib.Core.Path.{_≡_}
 use mathlib.Core.List.{List}
 use Prim.Native.Nat.{ℕ, _≤_, _<_}

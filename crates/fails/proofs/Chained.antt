@@ -1,5 +1,4 @@
 -- From the rows of who returns to the pairs that lie on a chain, and to those that no barrier bars either.
--- Assumes nothing.
 use mathlib.Core.Path.{_≡_}
 use mathlib.Core.Logic.{_⊎_, inl, inr}
 use mathlib.Core.List.{List}

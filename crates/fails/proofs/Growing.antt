@@ -1,5 +1,4 @@
 -- Sets and rows that are filled node by node, over any property and any relation.
--- Assumes nothing.
 use mathlib.Core.Path.{_≡_, refl, sym, subst, _∙_}
 use mathlib.Core.Logic.{_⊎_, inl, inr}
 use mathlib.Core.List.{List}

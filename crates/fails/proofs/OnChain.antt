@@ -1,5 +1,4 @@
 -- When a pair lies on a chain, in words that rows of bits can answer: by who leads back to its first node.
--- Assumes nothing.
 use mathlib.Core.Path.{_≡_, refl, sym, ap, subst}
 use mathlib.Core.Logic.{_↔_, _⊎_, inl, inr}
 use mathlib.Core.List.{List, [], _∷_, _++_}

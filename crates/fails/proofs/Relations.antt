@@ -1,5 +1,4 @@
 -- What rows of bits keep, turned from rows over rows into the rules' own relations.
--- Assumes nothing.
 use mathlib.Core.Path.{_≡_, refl, subst}
 use mathlib.Core.Logic.{inl, inr}
 use mathlib.Core.List.{List, [], _∷_, _++_}

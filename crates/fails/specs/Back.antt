@@ -1,5 +1,4 @@
 -- Coming back: how a pair closes a chain, said by nodes and not by lists of pairs.
--- Assumes nothing.
 use mathlib.Core.Logic.{_≢_, _⊎_}
 use mathlib.Core.List.{List}
 use Prim.Native.Nat.{ℕ, _<_}

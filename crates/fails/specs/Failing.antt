@@ -1,5 +1,4 @@
 -- What the rows of the failing-pair test keep, relation by relation.
--- Assumes nothing.
 use mathlib.Core.Path.{_≡_}
 use mathlib.Core.List.{List}
 use Prim.Native.Nat.{ℕ, _≤_, _<_}

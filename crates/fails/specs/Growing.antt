@@ -1,5 +1,4 @@
 -- Rows that are filled node by node: what stands after one more.
--- Assumes nothing.
 use mathlib.Core.Path.{_≡_}
 use mathlib.Core.Logic.{_⊎_}
 use mathlib.Core.List.{List}

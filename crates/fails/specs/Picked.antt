@@ -1,5 +1,4 @@
 -- Sets of nodes by their kinds, as the failing-pair test gathers them.
--- Assumes nothing.
 use mathlib.Core.Bool.{Bool, true, not}
 use Prim.Native.Nat.{ℕ}
 use Rattle.order.specs.Walks.{isAccess, isRmw}

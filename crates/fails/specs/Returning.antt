@@ -1,5 +1,4 @@
 -- The rows of who returns, one first node at a time: what each part of the work leaves.
--- Assumes nothing.
 use mathlib.Core.Path.{_≡_}
 use mathlib.Core.Logic.{_≢_, _⊎_}
 use mathlib.Core.List.{List}

@@ -1,5 +1,4 @@
 -- Heading, old nodes and fences, put one after another, are the patched listing's bytes at the buffer's start.
--- Assumes nothing.
 use mathlib.Core.Path.{_≡_, refl, sym, ap, _∙_}
 use mathlib.Core.Bool.{true, false}
 use mathlib.Core.List.{List, [], _∷_, _++_}

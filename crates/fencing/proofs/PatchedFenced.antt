@@ -1,5 +1,4 @@
 -- The patched listing, number by number: it is the old one with exactly the fences asked for, and no other listing is.
--- Assumes nothing.
 use mathlib.Core.Path.{_≡_, refl, sym, ap, _∙_, subst}
 use mathlib.Core.Logic.{_⊎_, inl, inr}
 use mathlib.Core.Bool.{true, false, false≢true}

@@ -1,5 +1,4 @@
 -- What the writer leaves is admitted, and reads back as the old nodes with exactly the fences asked for.
--- Assumes nothing.
 use mathlib.Core.Path.{_≡_, sym, ap, _∙_, subst}
 use mathlib.Core.List.{List}
 use Prim.Native.Nat.{ℕ, _+_, _≤_}

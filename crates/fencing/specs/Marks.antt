@@ -1,5 +1,4 @@
 -- A patch map's bytes as marks, and a map that fits its listing.
--- Assumes nothing.
 use mathlib.Core.Path.{_≡_}
 use mathlib.Core.Bool.{Bool}
 use mathlib.Core.List.{List, map}

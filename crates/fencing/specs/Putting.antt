@@ -1,5 +1,4 @@
 -- The patched listing node by node, as the writer puts it: b says whether the node is marked.
--- Assumes nothing.
 use mathlib.Core.Bool.{Bool, true, false}
 use mathlib.Core.List.{[], _∷_}
 use Prim.Native.Nat.{ℕ, suc}

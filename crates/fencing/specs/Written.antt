@@ -1,5 +1,4 @@
 -- A listing with fences put in, said number by number, and what the writer leaves in the lent buffer.
--- Assumes nothing.
 use mathlib.Core.Path.{_≡_}
 use mathlib.Core.Bool.{true, false}
 use mathlib.Core.List.{List}

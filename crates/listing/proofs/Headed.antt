@@ -1,5 +1,4 @@
 -- What an admitted heading says, and conversely.
--- Assumes nothing.
 use mathlib.Core.Path.{_≡_, ap}
 use mathlib.Core.Bool.{false, not, _&&_}
 use mathlib.Core.List.{List}

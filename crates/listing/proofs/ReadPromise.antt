@@ -1,5 +1,4 @@
 -- What the reader's promise comes to: each refusal exactly under its condition, one answer, and what a caller learns of it.
--- Assumes nothing.
 use mathlib.Core.Path.{_≡_, refl, sym, ap, ap₂, _∙_}
 use mathlib.Core.Logic.{_↔_}
 use mathlib.Core.List.{List}

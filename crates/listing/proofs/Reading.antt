@@ -1,5 +1,4 @@
 -- The reader's way through its table: the heading's rows, and then each node's; and what an admitted listing has.
--- Assumes nothing.
 use mathlib.Core.Path.{_≡_, sym, ap, _∙_}
 use mathlib.Core.List.{List, _++_}
 use Prim.Native.Nat.{ℕ, suc, _+_, _-_, _<_, _≤_}

@@ -1,5 +1,4 @@
 -- The reader's table, row by row: where no row applies, none of the heading's does and none of any node's, and conversely.
--- Assumes nothing.
 use mathlib.Core.Path.{_≡_, refl, _∙_, subst}
 use mathlib.Core.List.{List}
 use Prim.Native.Nat.{ℕ, zero, suc, _+_, _≤_, _<_}

@@ -1,5 +1,4 @@
 -- What the table admits, said of nodes: an admitted listing's nodes are valid, and the bytes of valid nodes are admitted.
--- Assumes nothing.
 use mathlib.Core.Path.{_≡_, refl, sym, ap, _∙_, subst}
 use mathlib.Core.Logic.{_≢_, _⊎_, inl, inr}
 use mathlib.Core.Bool.{true, false, not, _&&_, _||_}

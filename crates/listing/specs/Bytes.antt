@@ -1,5 +1,4 @@
 -- A listing's bytes, version 1: where its numbers stand, the nodes that they hold, and the bytes of given nodes.
--- Assumes nothing.
 use mathlib.Core.List.{List, [], _∷_, _++_}
 use Prim.Native.Nat.{ℕ, zero, suc, _+_, _*_, _/_, _%_, _≤_}
 use lib.ListN.{length, getD}

@@ -1,5 +1,4 @@
 -- The limits of a listing, stated once; `Listing::ROUTINES` and the rest of the code's constants are proved to be these.
--- Assumes nothing.
 use Prim.Native.Nat.{ℕ}
 
 -- "the routine count F (1 to 16)"

@@ -1,5 +1,4 @@
 -- A node of a listing, and a listing as the list of its nodes: what every rule of order speaks of.
--- Assumes nothing.
 use mathlib.Core.List.{List}
 use Prim.Native.Nat.{ℕ}
 use lib.ListN.{getD}

@@ -1,5 +1,4 @@
 -- The refusals of reading, 2 to 12, in the table's order, and the reader's answer.
--- Assumes nothing.
 use mathlib.Core.Path.{_≡_}
 use mathlib.Core.Bool.{Bool, not, _&&_, _||_}
 use mathlib.Core.List.{List, [], _∷_, _++_}

@@ -1,5 +1,4 @@
 -- A table of refusals: rows of which the first that applies is taken. Every service has one, put together from the same parts.
--- Assumes nothing.
 use mathlib.Core.Path.{_≡_}
 use mathlib.Core.Bool.{Bool, true, false, cond}
 use mathlib.Core.List.{List, [], _∷_}

@@ -1,5 +1,4 @@
 -- What the table admits, said of the heading's numbers (rules 2 to 7) and of the nodes (rules 8 to 12).
--- Assumes nothing.
 use mathlib.Core.Path.{_≡_}
 use mathlib.Core.Logic.{_≢_, _⊎_}
 use mathlib.Core.List.{List}

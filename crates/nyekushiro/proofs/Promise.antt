@@ -1,5 +1,4 @@
 -- The exported answers are as unique as the services': two structs that say the same are the same.
--- Assumes nothing.
 use mathlib.Core.Path.{_≡_, ap}
 use Rattle.listing.specs.Answer as paper
 use Rattle.nyekushiro.specs.declared.Answer.{Answer}

@@ -1,5 +1,4 @@
 -- The exported answer, as the paper's numbers.
--- Assumes nothing.
 use Rattle.listing.specs.Answer as paper
 use Rattle.nyekushiro.specs.declared.Answer.{Answer}
 

@@ -1,5 +1,4 @@
 -- The rehearsed listings have the answers that the paper gives: one table, one statement, computed.
--- Assumes nothing.
 use mathlib.Core.List.{List}
 use mathlib.Core.Bool.{Bool}
 use lib.Dec.{T}

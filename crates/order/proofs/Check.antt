@@ -1,5 +1,4 @@
 -- A verdict is checked by computation: the check passes exactly if it is the verdict.
--- Assumes nothing.
 use mathlib.Core.Path.{_≡_, sym, subst}
 use mathlib.Core.Logic.{_↔_, _⊎_, inl, inr}
 use mathlib.Core.List.{List, [], _∷_}

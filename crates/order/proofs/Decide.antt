@@ -1,5 +1,4 @@
 -- Failing pairs are decided by computation: the test passes exactly if the pair fails.
--- Assumes nothing.
 use mathlib.Core.Path.{_≡_, refl, sym, subst}
 use mathlib.Core.Logic.{_⊎_, inl, inr}
 use mathlib.Core.List.{List, [], _∷_, _++_}

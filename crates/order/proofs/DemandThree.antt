@@ -1,5 +1,4 @@
 -- Demand 3: a listing is robust exactly if each step of each closed chain of steps is in order or free of need.
--- Assumes nothing.
 use mathlib.Core.Path.{_≡_, refl, sym, _∙_}
 use mathlib.Core.Logic.{_↔_, _⊎_, inl, inr}
 use mathlib.Core.List.{List, [], _∷_, map}

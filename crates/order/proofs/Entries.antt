@@ -1,5 +1,4 @@
 -- The entries of the need-for-order table, read from their numbers.
--- Assumes nothing.
 use mathlib.Core.Path.{_≡_, refl}
 use mathlib.Core.Bool.{Bool, true, false, cond, _&&_}
 use Prim.Native.Nat.{ℕ, _<_}

@@ -1,5 +1,4 @@
 -- A row whose relation looks at a key of its second entry only, made to have different keys.
--- Assumes nothing.
 use mathlib.Core.Path.{_≡_, refl, sym, ap, subst}
 use mathlib.Core.Logic.{_⊎_, inl, inr}
 use mathlib.Core.List.{List, [], _∷_, _++_, map}

@@ -1,5 +1,4 @@
 -- Laws of the definitions: what the rest of the theory uses of walks, accesses, meeting and barriers.
--- Assumes nothing.
 use mathlib.Core.Path.{_≡_, refl, sym, subst}
 use mathlib.Core.Logic.{_⊎_, inl, inr}
 use mathlib.Core.HLevel.{×-discrete}

@@ -1,5 +1,4 @@
 -- The chain to show: a least round is one, and it has at most N + 1 pairs; when a pair lies on a chain.
--- Assumes nothing.
 use mathlib.Core.Path.{_≡_, refl, sym, subst}
 use mathlib.Core.Logic.{_⊎_, inl, inr}
 use mathlib.Core.List.{List, [], _∷_, _++_, map}

@@ -1,5 +1,4 @@
 -- Lists of any type: membership, cutting and joining, rows, entries kept by a test, and the pigeonhole.
--- Assumes nothing.
 use mathlib.Core.Path.{_≡_, refl, sym, ap, subst}
 use mathlib.Core.Logic.{_⊎_, inl, inr}
 use mathlib.Core.List.{List, [], _∷_, _++_}

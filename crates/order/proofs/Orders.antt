@@ -1,5 +1,4 @@
 -- The order in which pairs and chains are compared: of two, one comes first or they are equal; a list has a least entry.
--- Assumes nothing.
 use mathlib.Core.Path.{_≡_, refl, sym, ap₂, _∙_, subst}
 use mathlib.Core.Logic.{inl, inr}
 use mathlib.Core.List.{List, [], _∷_}

@@ -1,6 +1,5 @@
 -- The failing pairs of a patched listing are, in the old numbers, those old failing pairs that have a walk with no barrier
 -- inside which passes no mark; so acceptance is monotone in the map.
--- Assumes nothing.
 use mathlib.Core.Path.{_≡_, sym, ap, ap₂, _∙_, subst, subst₂, subst₃}
 use mathlib.Core.Logic.{_⊎_, inl, inr}
 use mathlib.Core.List.{List, [], _∷_}

@@ -1,5 +1,4 @@
 -- Judging the written listing is judging with the map, in the old numbers.
--- Assumes nothing.
 use mathlib.Core.Logic.{_↔_}
 use Prim.Native.Nat.{ℕ, _≤_}
 use lib.ListN.{length}

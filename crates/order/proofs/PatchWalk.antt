@@ -1,5 +1,4 @@
 -- Walks of the patched listing between old nodes are the old walks, with the fences passed on the way.
--- Assumes nothing.
 use mathlib.Core.Path.{_≡_, refl, sym, ap, _∙_, subst}
 use mathlib.Core.Logic.{_⊎_, inl, inr}
 use mathlib.Core.List.{List, [], _∷_}

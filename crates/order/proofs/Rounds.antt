@@ -1,5 +1,4 @@
 -- Rounds: closed rows of pairs that avoid their first pair. Every chain is one, and every round has a chain in it.
--- Assumes nothing.
 use mathlib.Core.Path.{_≡_}
 use mathlib.Core.Logic.{inl, inr}
 use mathlib.Core.List.{List, [], _∷_}

@@ -1,5 +1,4 @@
 -- Closed rows of any type made shorter, and seen from another of their entries.
--- Assumes nothing.
 use mathlib.Core.Path.{_≡_, sym, ap, subst}
 use mathlib.Core.Logic.{_≢_, _⊎_, inl, inr}
 use mathlib.Core.List.{List, [], _∷_, _++_}

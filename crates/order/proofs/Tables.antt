@@ -1,5 +1,4 @@
 -- A rule of a table, of any entries and so of tables in tables, proved at all of its entries by one test that is computed.
--- Assumes nothing.
 use mathlib.Core.Path.{_≡_, subst, sym, _∙_}
 use mathlib.Core.Bool.{Bool, true, _&&_}
 use mathlib.Core.List.{List, [], _∷_}

@@ -1,5 +1,4 @@
 -- The rehearsed listings, cases A to L, as one table.
--- Assumes nothing.
 use mathlib.Core.List.{List, [], _∷_}
 use mathlib.Core.Bool.{true, false}
 use Prim.Native.Nat.{ℕ}

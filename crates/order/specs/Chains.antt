@@ -1,5 +1,4 @@
 -- Meeting, joining and chains.
--- Assumes nothing.
 use mathlib.Core.List.{List, _∷_}
 use mathlib.Core.Bool.{Bool, _&&_, _||_}
 use Prim.Native.Nat.{ℕ}

@@ -1,5 +1,4 @@
 -- Words for lists: every entry, some entry, all different, and a row of entries that follow one another by a relation.
--- Assumes nothing.
 use mathlib.Core.Path.{_≡_}
 use mathlib.Core.Logic.{_⊎_}
 use mathlib.Core.List.{List, [], _∷_}

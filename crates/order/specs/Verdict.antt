@@ -1,5 +1,4 @@
 -- Failing pairs, the first of them, the chain to show, and the verdict.
--- Assumes nothing.
 use mathlib.Core.Path.{_≡_}
 use mathlib.Core.Logic.{_⊎_}
 use mathlib.Core.List.{List, [], _∷_}

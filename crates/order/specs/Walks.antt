@@ -1,5 +1,4 @@
 -- Kinds, walks and pairs.
--- Assumes nothing.
 use mathlib.Core.Path.{_≡_}
 use mathlib.Core.Logic.{_⊎_}
 use mathlib.Core.List.{List}

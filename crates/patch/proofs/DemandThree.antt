@@ -1,6 +1,5 @@
 -- Demand 3 about judging with a map: accepted exactly if the map fits and every closed chain of steps of the patched listing has each step
 -- in order or free of need; and which maps are accepted.
--- Assumes nothing.
 use mathlib.Core.Path.{_≡_, refl, sym, ap, _∙_, subst}
 use mathlib.Core.Logic.{_↔_}
 use mathlib.Core.List.{List, _++_}

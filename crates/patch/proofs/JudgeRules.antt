@@ -1,5 +1,4 @@
 -- The table of judging with a map, check by check: 1, then 2 to 15, then 16, then nothing.
--- Assumes nothing.
 use mathlib.Core.Path.{_≡_, refl, sym, _∙_, subst}
 use mathlib.Core.Bool.{true, false}
 use mathlib.Core.List.{List, _++_}

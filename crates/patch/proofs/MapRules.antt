@@ -1,5 +1,4 @@
 -- Which row of the tables of a map applies, check by check, and what a listing and a map that pass have.
--- Assumes nothing.
 use mathlib.Core.Path.{_≡_, ap, _∙_}
 use mathlib.Core.List.{List, _∷_, _++_}
 use Prim.Native.Nat.{ℕ, _+_, _≤_, _<_}

@@ -1,5 +1,4 @@
 -- The promises of judging with a map, proposing and writing each leave one answer and one content of the lent buffer.
--- Assumes nothing.
 use mathlib.Core.Path.{_≡_, sym, ap, ap₂, _∙_, subst}
 use mathlib.Core.List.{List}
 use Prim.Native.Nat.{ℕ}

@@ -1,5 +1,4 @@
 -- What propose answers and writes: the marks of the failing pairs' first nodes, their number, and a map that judging accepts.
--- Assumes nothing.
 use mathlib.Core.Path.{_≡_, refl, sym, ap, _∙_, subst}
 use mathlib.Core.Bool.{true, false}
 use mathlib.Core.List.{List, [], _∷_, _++_}

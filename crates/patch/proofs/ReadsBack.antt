@@ -1,5 +1,4 @@
 -- What write writes is admitted and reads back as the old nodes with exactly the fences asked for; and judging it is judging with the map.
--- Assumes nothing.
 use mathlib.Core.Path.{_≡_, refl, sym, ap, _∙_, subst, subst₂}
 use mathlib.Core.List.{List, _++_}
 use Prim.Native.Nat.{ℕ, _≤_}

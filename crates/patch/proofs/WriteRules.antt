@@ -1,5 +1,4 @@
 -- Writing's table, check by check: what is refused before there is a length to write, then 16, then nothing.
--- Assumes nothing.
 use mathlib.Core.Path.{_≡_, refl, sym, subst}
 use mathlib.Core.List.{List}
 use Prim.Native.Nat.{ℕ, _≤_, _<_}

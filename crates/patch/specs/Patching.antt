@@ -1,5 +1,4 @@
 -- What judging with a map, proposing and writing promise: one answer, and one content of every lent buffer.
--- Assumes nothing.
 use mathlib.Core.Path.{_≡_}
 use mathlib.Core.Bool.{Bool, true, false, not, cond}
 use mathlib.Core.List.{List, [], _∷_, _++_}

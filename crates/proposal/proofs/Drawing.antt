@@ -1,5 +1,4 @@
 -- The marks that are drawn up are the proposed map, and its bytes are 0 or 1.
--- Assumes nothing.
 use mathlib.Core.Path.{_≡_, refl, sym, ap, _∙_, subst}
 use mathlib.Core.Logic.{inl, inr}
 use mathlib.Core.Bool.{true, false≢true}

@@ -1,5 +1,4 @@
 -- What drawing up a map comes to, node by node.
--- Assumes nothing.
 use mathlib.Core.Path.{_≡_}
 use mathlib.Core.Logic.{_⊎_}
 use mathlib.Core.List.{List}

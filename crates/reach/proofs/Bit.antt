@@ -1,5 +1,4 @@
 -- The bits of a word: of `or`, `and` and `xor`, of one hot bit, and of a word that is not 0.
--- Assumes nothing.
 use mathlib.Core.Path.{_≡_, refl, sym, ap, _∙_}
 use Prim.Native.Nat.{ℕ, zero, suc, _+_, _-_, _*_, _/_, _%_, _^_, _≤_, _<_, min, max}
 use native.Mathlib.Nat.{one-mul, pow-suc, div-eq-of-lt, mul-mod-left, lt-of-lt-of-le, lt-of-le-of-lt}

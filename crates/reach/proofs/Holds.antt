@@ -1,5 +1,4 @@
 -- The laws of `Holds` and `Members`: rows that keep one relation keep every equal one.
--- Assumes nothing.
 use mathlib.Core.List.{List}
 use Prim.Native.Nat.{ℕ, _≤_, _<_}
 use native.Mathlib.Omega.{arith}

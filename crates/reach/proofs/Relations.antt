@@ -1,5 +1,4 @@
 -- What the functions make of rows that hold relations, said of the relations themselves: for whoever builds one relation from others.
--- Assumes nothing.
 use mathlib.Core.Path.{_≡_}
 use mathlib.Core.Logic.{_⊎_, inl, inr, ⊎-elim}
 use mathlib.Core.List.{List, [], _∷_}

@@ -1,5 +1,4 @@
 -- The laws of rows: a bit, a row and all rows touched, tests, and two rows that meet.
--- Assumes nothing.
 use mathlib.Core.Path.{_≡_, refl, sym, ap, _∙_}
 use mathlib.Core.Logic.{_⊎_, inl, inr}
 use mathlib.Core.Bool.{Bool, true, false, not}

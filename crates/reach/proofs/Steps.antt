@@ -1,5 +1,4 @@
 -- Two steps, poured row by row; and a relation turned round, row by row.
--- Assumes nothing.
 use mathlib.Core.Path.{_≡_, refl, sym, _∙_}
 use mathlib.Core.Logic.{_⊎_, inl, inr, ⊎-elim}
 use mathlib.Core.List.{List}

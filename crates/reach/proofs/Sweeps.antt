@@ -1,5 +1,4 @@
 -- Walks by sweeps: rows that have every link and nothing but walks stay so, and where they are settled they have every walk.
--- Assumes nothing.
 use mathlib.Core.Path.{_≡_, sym, subst, _∙_}
 use mathlib.Core.Bool.{Bool, true, false, not}
 use mathlib.Core.Logic.{_⊎_, inl, inr, ⊎-elim}

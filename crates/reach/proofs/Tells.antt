@@ -1,5 +1,4 @@
 -- What answers of yes or no say together and turned round.
--- Assumes nothing.
 use mathlib.Core.Path.{_≡_}
 use mathlib.Core.Bool.{Bool, true, false, not}
 use Prim.Native.Nat.{ℕ}

@@ -1,5 +1,4 @@
 -- Rows thinned one after the other: of each row only what satisfies P is kept.
--- Assumes nothing.
 use mathlib.Core.Path.{_≡_, sym, subst, _∙_}
 use mathlib.Core.Logic.{_⊎_, ⊎-elim}
 use mathlib.Core.List.{List}

@@ -1,5 +1,4 @@
 -- Walks whose inside nodes are below a number, and the rounds that let one more node lie inside.
--- Assumes nothing.
 use mathlib.Core.Path.{_≡_}
 use mathlib.Core.Logic.{_⊎_, inl, inr, ⊎-elim}
 use mathlib.Core.List.{List, [], _∷_}

@@ -1,5 +1,4 @@
 -- The links and the walks of a listing, as rows.
--- Assumes nothing.
 use mathlib.Core.Path.{_≡_}
 use mathlib.Core.Logic.{_⊎_}
 use mathlib.Core.Bool.{Bool, true, false}

@@ -1,5 +1,4 @@
 -- Relations on at most 128 nodes as rows of bits, two 64-bit words a row. A set of nodes is one row.
--- Assumes nothing.
 use mathlib.Core.Path.{_≡_}
 use mathlib.Core.Bool.{Bool, true, false}
 use mathlib.Core.List.{List}

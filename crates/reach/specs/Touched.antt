@@ -1,5 +1,4 @@
 -- What becomes of the rows where one bit or one row is touched: w before, v after.
--- Assumes nothing.
 use mathlib.Core.Path.{_≡_}
 use mathlib.Core.Logic.{_⊎_}
 use mathlib.Core.List.{List}

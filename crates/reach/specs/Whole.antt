@@ -1,5 +1,4 @@
 -- What becomes of whole relations: w before, v after. `Holds` of the rows after, with one of the relations here, is what most functions promise.
--- Assumes nothing.
 use mathlib.Core.Path.{_≡_}
 use mathlib.Core.Logic.{_⊎_}
 use mathlib.Core.List.{List}

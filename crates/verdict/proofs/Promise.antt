@@ -1,5 +1,4 @@
 -- Judge's promise leaves one answer and one content of the chain buffer.
--- Assumes nothing.
 use mathlib.Core.Path.{_≡_, refl, sym, ap, _∙_}
 use mathlib.Core.List.{List}
 use Prim.Native.Nat.{ℕ}

@@ -1,5 +1,4 @@
 -- What the rows keep around a pair, once it is taken out of the pairs and its first node's row is the set of targets.
--- Assumes nothing.
 use mathlib.Core.Path.{_≡_, refl, sym, ap, subst}
 use mathlib.Core.List.{List}
 use Prim.Native.Nat.{ℕ, _≤_, _<_}

@@ -1,5 +1,4 @@
 -- The best chain by rows is the chain to show: hops and pairs as numbers, turned into the rules' lists of pairs and back.
--- Assumes nothing.
 use mathlib.Core.Path.{_≡_, refl, sym, ap, _∙_, subst}
 use mathlib.Core.Logic.{_≢_, _⊎_, inl, inr}
 use mathlib.Core.List.{List, [], _∷_}

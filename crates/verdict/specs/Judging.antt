@@ -1,5 +1,4 @@
 -- What judging promises: one answer, and one content of the lent chain buffer.
--- Assumes nothing.
 use mathlib.Core.Path.{_≡_}
 use mathlib.Core.Bool.{Bool, not, _&&_}
 use mathlib.Core.List.{List, [], _∷_, _++_}

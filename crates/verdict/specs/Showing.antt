@@ -1,5 +1,4 @@
 -- Showing the chain of a pair: what it stands on, and what it leaves.
--- Assumes nothing.
 use mathlib.Core.Path.{_≡_}
 use mathlib.Core.List.{List, _∷_}
 use Prim.Native.Nat.{ℕ}

@@ -1,4 +1,4 @@
--- `chains::chain` meets its contract. Assumes nothing.
+-- `chains::chain` meets its contract.
 use borrow.Author.Needs.{needs}
 use Rattle.chains.proofs.Chains.{hop-far, downhill, shown, shown-never}
 use Rattle.chains.proofs.chain.Statement.{statement}

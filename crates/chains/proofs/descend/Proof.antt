@@ -1,4 +1,4 @@
--- `chains::descend` meets its contract. Assumes nothing.
+-- `chains::descend` meets its contract.
 use native.Mathlib.Omega.{arith}
 use Prim.Native.Nat.{_-_}
 use Rattle.chains.proofs.Going.{Going, going-none, going-more, going-all}

@@ -1,4 +1,4 @@
--- `chains::distances` meets its contract. Assumes nothing.
+-- `chains::distances` meets its contract.
 use borrow.Author.Needs.{needs}
 use native.Mathlib.Omega.{arith}
 use Rattle.chains.specs.Levels.{unset}

@@ -1,4 +1,4 @@
--- `chains::is_end` meets its contract. Assumes nothing.
+-- `chains::is_end` meets its contract.
 use borrow.Author.Needs.{needs}
 use Rattle.reach.specs.Rows.{Has}
 use Rattle.reach.proofs.Tells.{tells-and}

@@ -1,4 +1,4 @@
--- `chains::level` meets its contract. Assumes nothing.
+-- `chains::level` meets its contract.
 use borrow.Author.Needs.{needs}
 use native.Mathlib.Omega.{arith}
 use mathlib.Core.Path.{_≡_}

@@ -1,4 +1,4 @@
--- `chains::nearer` meets its contract. Assumes nothing.
+-- `chains::nearer` meets its contract.
 use borrow.Author.Needs.{needs}
 use native.Mathlib.Omega.{arith}
 use mathlib.Core.Path.{refl}

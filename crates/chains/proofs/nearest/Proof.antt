@@ -1,4 +1,4 @@
--- `chains::nearest` meets its contract. Assumes nothing.
+-- `chains::nearest` meets its contract.
 use borrow.Author.Needs.{needs}
 use native.Mathlib.Omega.{arith}
 use mathlib.Core.Path.{_≡_}

@@ -1,4 +1,4 @@
--- `chains::round` meets its contract. Assumes nothing.
+-- `chains::round` meets its contract.
 use borrow.Author.Needs.{needs}
 use Rattle.chains.proofs.Levels.{went}
 use Rattle.chains.proofs.round.Statement.{statement}

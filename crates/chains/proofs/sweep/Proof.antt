@@ -1,4 +1,4 @@
--- `chains::sweep` meets its contract. Assumes nothing.
+-- `chains::sweep` meets its contract.
 use borrow.Author.Needs.{needs}
 use native.Mathlib.Omega.{arith}
 use mathlib.Core.Path.{_≡_}

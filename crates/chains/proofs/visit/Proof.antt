@@ -1,4 +1,4 @@
--- `chains::visit` meets its contract. Assumes nothing.
+-- `chains::visit` meets its contract.
 use borrow.Author.Needs.{needs}
 use Rattle.chains.proofs.Levels.{visit-new, visit-far, visit-old}
 use Rattle.chains.proofs.visit.Statement.{statement}

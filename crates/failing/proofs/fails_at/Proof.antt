@@ -1,4 +1,4 @@
--- `failing::fails_at` meets its contract. Assumes nothing.
+-- `failing::fails_at` meets its contract.
 use borrow.Author.Needs.{needs}
 use mathlib.Core.Path.{sym, _∙_}
 use Rattle.listing.specs.Bytes.{nodesOf}

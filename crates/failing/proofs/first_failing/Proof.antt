@@ -1,4 +1,4 @@
--- `failing::first_failing` meets its contract. Assumes nothing.
+-- `failing::first_failing` meets its contract.
 use native.Mathlib.Omega.{arith}
 use borrow.Author.Count.{below-none, below-more}
 use mathlib.Core.Path.{_≡_}

@@ -1,4 +1,4 @@
--- `failing::second_failing` meets its contract. Assumes nothing.
+-- `failing::second_failing` meets its contract.
 use native.Mathlib.Omega.{arith}
 use borrow.Author.Count.{below-none, below-more}
 use mathlib.Core.Path.{_≡_}

@@ -1,4 +1,4 @@
--- `fails::come_rows` meets its contract. Assumes nothing.
+-- `fails::come_rows` meets its contract.
 use borrow.Author.Needs.{needs}
 use native.Mathlib.Omega.{arith}
 use mathlib.Core.Path.{_≡_}

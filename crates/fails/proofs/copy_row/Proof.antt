@@ -1,4 +1,4 @@
--- `fails::copy_row` meets its contract. Assumes nothing.
+-- `fails::copy_row` meets its contract.
 use borrow.Author.Needs.{needs}
 use Rattle.fails.proofs.Returning.{copied}
 use Rattle.fails.proofs.copy_row.Statement.{statement}

@@ -1,4 +1,4 @@
--- `fails::fill_meetings` meets its contract. Assumes nothing.
+-- `fails::fill_meetings` meets its contract.
 use borrow.Author.Needs.{needs}
 use native.Mathlib.Omega.{arith}
 use mathlib.Core.Path.{_≡_}

@@ -1,4 +1,4 @@
--- `fails::gather` meets its contract. Assumes nothing.
+-- `fails::gather` meets its contract.
 use borrow.Author.Needs.{needs}
 use native.Mathlib.Omega.{arith}
 use mathlib.Core.Path.{_≡_}

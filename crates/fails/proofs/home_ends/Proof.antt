@@ -1,4 +1,4 @@
--- `fails::home_ends` meets its contract. Assumes nothing.
+-- `fails::home_ends` meets its contract.
 use borrow.Author.Needs.{needs}
 use Rattle.fails.proofs.Returning.{home-ends}
 use Rattle.fails.proofs.home_ends.Statement.{statement}

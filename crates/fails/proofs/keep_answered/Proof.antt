@@ -1,4 +1,4 @@
--- `fails::keep_answered` meets its contract. Assumes nothing.
+-- `fails::keep_answered` meets its contract.
 use borrow.Author.Needs.{needs}
 use Rattle.fails.proofs.Returning.{answered-none, answered-one, answered-two}
 use Rattle.fails.proofs.keep_answered.Statement.{statement}

@@ -1,4 +1,4 @@
--- `fails::meet_row` meets its contract. Assumes nothing.
+-- `fails::meet_row` meets its contract.
 use borrow.Author.Needs.{needs}
 use native.Mathlib.Omega.{arith}
 use mathlib.Core.Path.{sym}

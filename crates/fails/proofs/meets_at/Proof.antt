@@ -1,4 +1,4 @@
--- `fails::meets_at` meets its contract. Assumes nothing.
+-- `fails::meets_at` meets its contract.
 use borrow.Author.Needs.{needs}
 use native.Mathlib.Omega.{arith}
 use Prim.Native.Nat.{_<_}

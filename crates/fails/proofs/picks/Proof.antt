@@ -1,4 +1,4 @@
--- `fails::picks` meets its contract. Assumes nothing.
+-- `fails::picks` meets its contract.
 use mathlib.Core.Path.{ap}
 use mathlib.Core.Bool.{not}
 use borrow.Author.Needs.{needs}

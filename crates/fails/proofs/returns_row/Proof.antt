@@ -1,4 +1,4 @@
--- `fails::returns_row` meets its contract. Assumes nothing.
+-- `fails::returns_row` meets its contract.
 use borrow.Author.Needs.{needs}
 use Rattle.fails.proofs.Returning.{row-grown}
 use Rattle.fails.proofs.returns_row.Statement.{statement}

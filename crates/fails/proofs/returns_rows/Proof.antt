@@ -1,4 +1,4 @@
--- `fails::returns_rows` meets its contract. Assumes nothing.
+-- `fails::returns_rows` meets its contract.
 use borrow.Author.Needs.{needs}
 use native.Mathlib.Omega.{arith}
 use mathlib.Core.Path.{_≡_}

@@ -1,4 +1,4 @@
--- `fails::suspects` meets its contract. Assumes nothing.
+-- `fails::suspects` meets its contract.
 use borrow.Author.Needs.{needs}
 use mathlib.Core.Path.{sym}
 use Rattle.listing.specs.Bytes.{countN, nodesOf}

@@ -1,4 +1,4 @@
--- `fence::fence` is safe: the map is within its buffer. Assumes nothing.
+-- `fence::fence` is safe: the map is within its buffer.
 use mathlib.Core.Path.{sym}
 use native.Mathlib.Omega.{arith}
 use lib.Seq.{length-take-le}

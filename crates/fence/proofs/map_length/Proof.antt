@@ -1,4 +1,4 @@
--- `fence::map_length` meets its contract: a listing that was read has at most 128 nodes. Assumes nothing.
+-- `fence::map_length` meets its contract: a listing that was read has at most 128 nodes.
 use native.Mathlib.Omega.{arith}
 use Rattle.listing.proofs.Reading.{admitted-whole}
 use Rattle.listing.proofs.ReadPromise.{read-good}

@@ -1,4 +1,4 @@
--- `fencing::is_marked` meets its contract. Assumes nothing.
+-- `fencing::is_marked` meets its contract.
 use borrow.Author.Needs.{needs}
 use mathlib.Core.Path.{sym}
 use denote.Ref.{now}

@@ -1,4 +1,4 @@
--- `fencing::places` meets its contract. Assumes nothing.
+-- `fencing::places` meets its contract.
 use borrow.Author.Needs.{needs}
 use mathlib.Core.Path.{_≡_}
 use mathlib.Core.Logic.{⊎-elim}

@@ -1,4 +1,4 @@
--- `fencing::put_fences` meets its contract. Assumes nothing.
+-- `fencing::put_fences` meets its contract.
 use borrow.Author.Needs.{needs}
 use mathlib.Core.Path.{_≡_, refl, ap, _∙_}
 use Prim.Native.Nat.{ℕ, _+_, _-_, _≤_, _<_}

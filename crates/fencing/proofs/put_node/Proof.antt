@@ -1,4 +1,4 @@
--- `fencing::put_node` meets its contract. Assumes nothing.
+-- `fencing::put_node` meets its contract.
 use mathlib.Core.Path.{refl, sym, ap, _∙_}
 use mathlib.Core.Bool.{Bool}
 use native.Mathlib.Numerals.{add-one}

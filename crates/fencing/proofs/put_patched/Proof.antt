@@ -1,4 +1,4 @@
--- `fencing::put_patched` meets its contract. Assumes nothing.
+-- `fencing::put_patched` meets its contract.
 use mathlib.Core.Path.{_≡_, sym}
 use Prim.Native.Nat.{_+_, _≤_}
 use native.Mathlib.Omega.{arith}

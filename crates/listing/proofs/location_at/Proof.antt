@@ -1,4 +1,4 @@
--- `listing::location_at` meets its contract. Assumes nothing.
+-- `listing::location_at` meets its contract.
 use borrow.Author.Needs.{needs}
 use mathlib.Core.Path.{sym, ap, ap₂, _∙_}
 use Prim.Native.Nat.{_<_}

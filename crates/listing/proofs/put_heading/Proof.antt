@@ -1,4 +1,4 @@
--- `listing::put_heading` meets its contract. Assumes nothing.
+-- `listing::put_heading` meets its contract.
 use native.Mathlib.Omega.{arith}
 use lib.ListN.{length-set}
 use borrow.Author.Needs.{needs}

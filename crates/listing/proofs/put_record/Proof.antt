@@ -1,4 +1,4 @@
--- `listing::put_record` meets its contract. Assumes nothing.
+-- `listing::put_record` meets its contract.
 use native.Mathlib.Omega.{arith}
 use lib.ListN.{length-set}
 use denote.Ref.{now}

@@ -1,5 +1,4 @@
 -- `listing::read` meets its contract. The loop's invariant: the answer is what the rows of the nodes from `i` on say.
--- Assumes nothing.
 use borrow.Author.Needs.{needs}
 use mathlib.Core.Path.{_≡_, _∙_}
 use Prim.Native.Nat.{_-_}

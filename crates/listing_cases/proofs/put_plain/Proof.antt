@@ -1,4 +1,4 @@
--- `listing_cases::put_plain` meets its contract: stores keep the length. Assumes nothing.
+-- `listing_cases::put_plain` meets its contract: stores keep the length.
 use mathlib.Core.Path.{_≡_, sym, ap, _∙_}
 use borrow.Author.Needs.{needs}
 use Prim.Native.Nat.{_+_, _-_}

@@ -1,4 +1,4 @@
--- `listing_cases::sizes` is safe: the part that it lends is within the array. Assumes nothing.
+-- `listing_cases::sizes` is safe: the part that it lends is within the array.
 use mathlib.Core.Path.{sym}
 use native.Mathlib.Omega.{arith}
 use lib.Seq.{length-take-le}

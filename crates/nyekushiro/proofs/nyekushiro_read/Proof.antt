@@ -1,4 +1,4 @@
--- `nyekushiro::nyekushiro_read` meets its contract. Assumes nothing.
+-- `nyekushiro::nyekushiro_read` meets its contract.
 use mathlib.Core.Path.{sym, ap, _∙_}
 use borrow.Author.Needs.{needs}
 use Rattle.nyekushiro.proofs.nyekushiro_read.Statement.{statement}

@@ -1,4 +1,4 @@
--- `nyekushiro::of_judge` meets its contract. Assumes nothing.
+-- `nyekushiro::of_judge` meets its contract.
 use mathlib.Core.Path.{sym, ap, _∙_}
 use Rattle.verdict.specs.Judging.{judgeSays}
 use borrow.Author.Needs.{needs}

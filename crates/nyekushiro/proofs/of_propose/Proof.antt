@@ -1,4 +1,4 @@
--- `nyekushiro::of_propose` meets its contract. Assumes nothing.
+-- `nyekushiro::of_propose` meets its contract.
 use mathlib.Core.Path.{sym, ap, _∙_}
 use Rattle.patch.specs.Patching.{proposeSays}
 use borrow.Author.Needs.{needs}

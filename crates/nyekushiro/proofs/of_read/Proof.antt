@@ -1,4 +1,4 @@
--- `nyekushiro::of_read` meets its contract. Assumes nothing.
+-- `nyekushiro::of_read` meets its contract.
 use mathlib.Core.Path.{sym, ap, _∙_}
 use Rattle.listing.specs.Read.{readSays}
 use borrow.Author.Needs.{needs}

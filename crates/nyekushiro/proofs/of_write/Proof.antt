@@ -1,4 +1,4 @@
--- `nyekushiro::of_write` meets its contract. Assumes nothing.
+-- `nyekushiro::of_write` meets its contract.
 use mathlib.Core.Path.{sym, ap, _∙_}
 use Rattle.patch.specs.Patching.{writeSays}
 use borrow.Author.Needs.{needs}

@@ -1,4 +1,4 @@
--- `order::bars` meets its contract. Assumes nothing.
+-- `order::bars` meets its contract.
 use borrow.Author.Tests.{eq-eqb, ne-eqb}
 use Rattle.order.proofs.bars.Statement.{statement}
 use Rattle.order.proofs.bars.Tie as tie

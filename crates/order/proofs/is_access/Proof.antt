@@ -1,4 +1,4 @@
--- `order::is_access` meets its contract. Assumes nothing.
+-- `order::is_access` meets its contract.
 use borrow.Author.Tests.{eq-eqb, ne-eqb}
 use Rattle.order.proofs.is_access.Statement.{statement}
 use Rattle.order.proofs.is_access.Tie as tie

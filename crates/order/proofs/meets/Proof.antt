@@ -1,4 +1,4 @@
--- `order::meets` meets its contract. Assumes nothing.
+-- `order::meets` meets its contract.
 use borrow.Author.Tests.{eq-eqb, ne-eqb}
 use Rattle.order.proofs.meets.Statement.{statement}
 use Rattle.order.proofs.meets.Tie as tie

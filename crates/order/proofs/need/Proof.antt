@@ -1,4 +1,4 @@
--- `order::need` meets its contract: the table's rule is one test over all of its entries, which is computed. Assumes nothing.
+-- `order::need` meets its contract: the table's rule is one test over all of its entries, which is computed.
 use mathlib.Core.Path.{_≡_, ap, _∙_}
 use mathlib.Core.List.{List, [], _∷_}
 use Prim.Native.Nat.{ℕ, suc, _-_}

@@ -1,4 +1,4 @@
--- `order::surely` meets its contract. Assumes nothing.
+-- `order::surely` meets its contract.
 use native.Mathlib.Omega.{arith}
 use borrow.Author.Tests.{eq-eqb, ne-eqb, le-leb, lt-leb}
 use Rattle.order.proofs.surely.Statement.{statement}

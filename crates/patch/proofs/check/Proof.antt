@@ -1,4 +1,4 @@
--- `patch::check` meets its contract. Assumes nothing.
+-- `patch::check` meets its contract.
 use borrow.Author.Needs.{needs}
 use mathlib.Core.Path.{sym, _∙_}
 use denote.Ref.{now}

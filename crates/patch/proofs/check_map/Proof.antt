@@ -1,4 +1,4 @@
--- `patch::check_map` meets its contract, row by row. Assumes nothing.
+-- `patch::check_map` meets its contract, row by row.
 use borrow.Author.Needs.{needs}
 use mathlib.Core.Path.{_≡_, sym, _∙_}
 use mathlib.Core.List.{_++_}

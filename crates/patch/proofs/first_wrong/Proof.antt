@@ -1,4 +1,4 @@
--- `patch::first_wrong` meets its contract. The loop's invariant: rule 14 is left with the bytes from `i` on. Assumes nothing.
+-- `patch::first_wrong` meets its contract. The loop's invariant: rule 14 is left with the bytes from `i` on.
 use borrow.Author.Needs.{needs}
 use mathlib.Core.Path.{_≡_, refl}
 use Prim.Native.Nat.{_-_}

@@ -1,4 +1,4 @@
--- `patch::judge_checked` meets its contract. Assumes nothing.
+-- `patch::judge_checked` meets its contract.
 use borrow.Author.Needs.{needs}
 use mathlib.Core.Path.{sym}
 use Prim.Native.Nat.{_≤_}

@@ -1,4 +1,4 @@
--- `patch::judge_patch` meets its contract. Assumes nothing.
+-- `patch::judge_patch` meets its contract.
 use borrow.Author.Needs.{needs}
 use mathlib.Core.Path.{_≡_, refl, sym, ap, _∙_}
 use mathlib.Core.Bool.{false}

@@ -1,4 +1,4 @@
--- `patch::write` meets its contract. Assumes nothing.
+-- `patch::write` meets its contract.
 use borrow.Author.Needs.{needs}
 use mathlib.Core.Path.{_≡_, refl, sym, ap, _∙_}
 use denote.Ref.{now}

@@ -1,4 +1,4 @@
--- `patch::write_checked` meets its contract. Assumes nothing.
+-- `patch::write_checked` meets its contract.
 use borrow.Author.Needs.{needs}
 use mathlib.Core.Path.{refl}
 use native.Mathlib.Omega.{arith}

@@ -1,4 +1,4 @@
--- `proposal::copy` meets its contract. The loop's invariant: what is still to be put is `from` from `i` on. Assumes nothing.
+-- `proposal::copy` meets its contract. The loop's invariant: what is still to be put is `from` from `i` on.
 use borrow.Author.Needs.{needs}
 use mathlib.Core.Path.{_≡_, refl, _∙_}
 use Prim.Native.Nat.{_-_}

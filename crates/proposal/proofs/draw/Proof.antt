@@ -1,4 +1,4 @@
--- `proposal::draw` meets its contract. The loop's invariant: the bytes below `a` are their nodes' marks. Assumes nothing.
+-- `proposal::draw` meets its contract. The loop's invariant: the bytes below `a` are their nodes' marks.
 use mathlib.Core.Path.{_≡_, refl, _∙_}
 use Prim.Native.Nat.{_-_, _≤_, _<_}
 use native.Mathlib.Omega.{arith}

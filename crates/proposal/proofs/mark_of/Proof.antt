@@ -1,4 +1,4 @@
--- `proposal::mark_of` meets its contract. Assumes nothing.
+-- `proposal::mark_of` meets its contract.
 use borrow.Author.Needs.{needs}
 use native.Mathlib.Omega.{arith}
 use denote.Ref.{now}

@@ -1,4 +1,4 @@
--- `proposal::offer` meets its contract. Assumes nothing.
+-- `proposal::offer` meets its contract.
 use borrow.Author.Needs.{needs}
 use mathlib.Core.Path.{refl}
 use native.Mathlib.Omega.{arith}

@@ -1,4 +1,4 @@
--- `proposal::propose` meets its contract. Assumes nothing.
+-- `proposal::propose` meets its contract.
 use borrow.Author.Needs.{needs}
 use mathlib.Core.Path.{_≡_, refl, sym, _∙_}
 use mathlib.Core.Bool.{false}

@@ -1,4 +1,4 @@
--- `proposal::propose_for` meets its contract. Assumes nothing.
+-- `proposal::propose_for` meets its contract.
 use borrow.Author.Needs.{needs}
 use mathlib.Core.Path.{sym}
 use Prim.Native.Nat.{_≤_}

@@ -1,4 +1,4 @@
--- `reach::add_all` meets its contract. Assumes nothing.
+-- `reach::add_all` meets its contract.
 use borrow.Author.Needs.{needs}
 use native.Mathlib.Omega.{arith}
 use mathlib.Core.Path.{_≡_, refl}

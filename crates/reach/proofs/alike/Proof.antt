@@ -1,4 +1,4 @@
--- `reach::alike` meets its contract. Assumes nothing.
+-- `reach::alike` meets its contract.
 use Rattle.reach.proofs.Rows as rows
 use borrow.Author.Needs.{needs}
 use Rattle.reach.proofs.alike.Statement.{statement}

@@ -1,4 +1,4 @@
--- `reach::calm` meets its contract. Assumes nothing.
+-- `reach::calm` meets its contract.
 use Rattle.reach.proofs.Tells.{tells-no}
 use Rattle.reach.proofs.Sweeps.{calm-of}
 use borrow.Author.Needs.{needs}

@@ -1,4 +1,4 @@
--- `reach::clear` meets its contract. Assumes nothing.
+-- `reach::clear` meets its contract.
 use Rattle.reach.proofs.Rows.{blank}
 use borrow.Author.Count.{below-none, below-more}
 use lib.Seq.{getD-set-same, getD-set-other}

@@ -1,4 +1,4 @@
--- `reach::columns` meets its contract. Assumes nothing.
+-- `reach::columns` meets its contract.
 use borrow.Author.Needs.{needs}
 use Rattle.reach.proofs.Thinned.{copied-low, copied-to}
 use Rattle.reach.proofs.columns.Statement.{statement}

@@ -1,4 +1,4 @@
--- `reach::empty_row` meets its contract. Assumes nothing.
+-- `reach::empty_row` meets its contract.
 use borrow.Author.Needs.{needs}
 use Rattle.reach.proofs.Rows.{emptied}
 use Rattle.reach.proofs.empty_row.Statement.{statement}

@@ -1,4 +1,4 @@
--- `reach::has` meets its contract. Assumes nothing.
+-- `reach::has` meets its contract.
 use Rattle.reach.proofs.Rows.{tells-has}
 use Rattle.reach.specs.Rows.{bit}
 use mathlib.Core.Path.{refl}

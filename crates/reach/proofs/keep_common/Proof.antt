@@ -1,4 +1,4 @@
--- `reach::keep_common` meets its contract. Assumes nothing.
+-- `reach::keep_common` meets its contract.
 use borrow.Author.Needs.{needs}
 use native.Mathlib.Omega.{arith}
 use mathlib.Core.Path.{_≡_, refl}

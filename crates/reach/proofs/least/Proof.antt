@@ -1,4 +1,4 @@
--- `reach::least` meets its contract. Assumes nothing.
+-- `reach::least` meets its contract.
 use native.Mathlib.Omega.{arith}
 use borrow.Author.Needs.{needs}
 use Rattle.reach.proofs.least.Statement.{statement}

@@ -1,4 +1,4 @@
--- `reach::link` meets its contract. Assumes nothing.
+-- `reach::link` meets its contract.
 use borrow.Author.Needs.{needs}
 use native.Mathlib.Omega.{arith}
 use mathlib.Core.Logic.{inl, inr, ⊎-elim}

@@ -1,4 +1,4 @@
--- `reach::links` meets its contract. Assumes nothing.
+-- `reach::links` meets its contract.
 use borrow.Author.Needs.{needs}
 use native.Mathlib.Omega.{arith}
 use mathlib.Core.Path.{_≡_}

@@ -1,4 +1,4 @@
--- `reach::lowest` meets its contract. Assumes nothing.
+-- `reach::lowest` meets its contract.
 use native.Mathlib.Omega.{arith}
 use Prim.Native.Nat.{_/_, _^_}
 use lib.Count.{trailing-le}

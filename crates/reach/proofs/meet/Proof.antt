@@ -1,4 +1,4 @@
--- `reach::meet` meets its contract. Assumes nothing.
+-- `reach::meet` meets its contract.
 use Rattle.reach.proofs.Rows.{meet-low, meet-last}
 use Prim.Native.Nat.{_+_, _*_, _-_}
 use borrow.Author.Needs.{needs}

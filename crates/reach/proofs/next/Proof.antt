@@ -1,4 +1,4 @@
--- `reach::next` meets its contract. Assumes nothing.
+-- `reach::next` meets its contract.
 use native.Mathlib.Omega.{arith}
 use Rattle.reach.proofs.Rows.{next-low, next-over, next-above}
 use borrow.Author.Needs.{needs}

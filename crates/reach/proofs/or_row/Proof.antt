@@ -1,4 +1,4 @@
--- `reach::or_row` meets its contract. Assumes nothing.
+-- `reach::or_row` meets its contract.
 use lib.Bits.{bitOr}
 use Prim.Native.Nat.{max}
 use Rattle.reach.proofs.Bit.{bit-or}

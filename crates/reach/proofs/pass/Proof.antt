@@ -1,4 +1,4 @@
--- `reach::pass` meets its contract. Assumes nothing.
+-- `reach::pass` meets its contract.
 use borrow.Author.Needs.{needs}
 use native.Mathlib.Omega.{arith}
 use mathlib.Core.Path.{_≡_}

@@ -1,4 +1,4 @@
--- `reach::pull` meets its contract. Assumes nothing.
+-- `reach::pull` meets its contract.
 use Rattle.reach.proofs.Tells.{tells-yes}
 use Rattle.reach.proofs.Sweeps.{pulled-none, pulled-or}
 use borrow.Author.Needs.{needs}

@@ -1,4 +1,4 @@
--- `reach::put` meets its contract. Assumes nothing.
+-- `reach::put` meets its contract.
 use Rattle.reach.proofs.Rows.{added}
 use borrow.Author.Needs.{needs}
 use Rattle.reach.proofs.put.Statement.{statement}

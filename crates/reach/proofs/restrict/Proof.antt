@@ -1,4 +1,4 @@
--- `reach::restrict` meets its contract. Assumes nothing.
+-- `reach::restrict` meets its contract.
 use borrow.Author.Needs.{needs}
 use Rattle.reach.proofs.Holds.{holds-low}
 use Rattle.reach.proofs.Thinned.{among}

@@ -1,4 +1,4 @@
--- `reach::settled` meets its contract. Assumes nothing.
+-- `reach::settled` meets its contract.
 use borrow.Author.Needs.{needs}
 use native.Mathlib.Omega.{arith}
 use mathlib.Core.Path.{_≡_}

@@ -1,4 +1,4 @@
--- `reach::sift` meets its contract. Assumes nothing.
+-- `reach::sift` meets its contract.
 use lib.Bits.{bitAnd}
 use Prim.Native.Nat.{min}
 use Rattle.reach.proofs.Bit.{bit-and}

@@ -1,4 +1,4 @@
--- `reach::sweep` meets its contract. Assumes nothing.
+-- `reach::sweep` meets its contract.
 use borrow.Author.Needs.{needs}
 use native.Mathlib.Omega.{arith}
 use mathlib.Core.Path.{_≡_, refl}

@@ -1,4 +1,4 @@
--- `reach::take_out` meets its contract. Assumes nothing.
+-- `reach::take_out` meets its contract.
 use borrow.Author.Needs.{needs}
 use Rattle.reach.proofs.Rows.{removed}
 use Rattle.reach.proofs.take_out.Statement.{statement}

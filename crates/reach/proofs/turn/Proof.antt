@@ -1,4 +1,4 @@
--- `reach::turn` meets its contract. Assumes nothing.
+-- `reach::turn` meets its contract.
 use borrow.Author.Needs.{needs}
 use native.Mathlib.Omega.{arith}
 use mathlib.Core.Path.{_≡_}

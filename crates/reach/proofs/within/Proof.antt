@@ -1,4 +1,4 @@
--- `reach::within` meets its contract. Assumes nothing.
+-- `reach::within` meets its contract.
 use Rattle.reach.proofs.Rows.{covers}
 use borrow.Author.Needs.{needs}
 use Rattle.reach.proofs.within.Statement.{statement}

@@ -1,4 +1,4 @@
--- `say::pairs` is safe: the pairs printed lie within the buffer. Assumes nothing.
+-- `say::pairs` is safe: the pairs printed lie within the buffer.
 use Prim.Native.Nat.{_-_}
 use borrow.Author.Needs.{needs}
 use Rattle.say.proofs.pairs.Statement.{statement}

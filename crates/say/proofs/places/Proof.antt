@@ -1,4 +1,4 @@
--- `say::places` is safe. Assumes nothing.
+-- `say::places` is safe.
 use lib.ListN.{length}
 use Prim.Native.Nat.{_-_}
 use borrow.Author.Needs.{needs}

@@ -1,4 +1,4 @@
--- `verdict::judge` meets its contract. Assumes nothing.
+-- `verdict::judge` meets its contract.
 use native.Mathlib.Omega.{arith}
 use mathlib.Core.Path.{_≡_, sym, ap, _∙_}
 use Rattle.listing.proofs.ReadPromise.{read-good, read-refused}

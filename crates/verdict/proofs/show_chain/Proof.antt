@@ -1,4 +1,4 @@
--- `verdict::show_chain` meets its contract. Assumes nothing.
+-- `verdict::show_chain` meets its contract.
 use native.Mathlib.Omega.{arith}
 use mathlib.Core.Path.{_≡_, sym, ap, _∙_}
 use Prim.Native.Nat.{_-_, _≤_, _<_}

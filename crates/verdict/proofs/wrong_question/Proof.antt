@@ -1,4 +1,4 @@
--- `verdict::wrong_question` meets its contract. Assumes nothing.
+-- `verdict::wrong_question` meets its contract.
 use borrow.Author.Tests.{lt-leb, le-leb}
 use Rattle.verdict.specs.Judging.{wrongQuestion}
 use Rattle.verdict.proofs.wrong_question.Statement.{statement}

@@ -1,4 +1,4 @@
--- `cases::full::put_full` meets its contract: stores keep the length. Assumes nothing.
+-- `cases::full::put_full` meets its contract: stores keep the length.
 use mathlib.Core.Path.{_≡_, sym, ap, _∙_}
 use Prim.Native.Nat.{_-_}
 use lib.ListN.{length, length-set}

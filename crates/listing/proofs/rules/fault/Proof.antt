@@ -1,4 +1,4 @@
--- `listing::rules::fault` meets its contract, row by row. Assumes nothing.
+-- `listing::rules::fault` meets its contract, row by row.
 use mathlib.Core.Path.{_≡_, sym, _∙_}
 use mathlib.Core.List.{List}
 use Prim.Native.Nat.{ℕ}

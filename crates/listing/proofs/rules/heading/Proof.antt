@@ -1,4 +1,4 @@
--- `listing::rules::heading` meets its contract: where a test fails, the table is left with the rows after its row. Assumes nothing.
+-- `listing::rules::heading` meets its contract: where a test fails, the table is left with the rows after its row.
 use borrow.Author.Needs.{needs}
 use borrow.Author.Tests.{eq-eqb, ne-eqb, lt-ltb, le-ltb}
 use mathlib.Core.Path.{_≡_, sym, _∙_}

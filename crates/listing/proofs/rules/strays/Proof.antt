@@ -1,4 +1,4 @@
--- `listing::rules::strays` meets its contract. Assumes nothing.
+-- `listing::rules::strays` meets its contract.
 use borrow.Author.Tests.{eq-eqb, ne-eqb, le-ltb, lt-ltb}
 use mathlib.Core.Path.{_≡_}
 use mathlib.Core.Bool.{true, not}

@@ -1,4 +1,4 @@
--- `listing::rules::wrong_kind` meets its contract. Assumes nothing.
+-- `listing::rules::wrong_kind` meets its contract.
 use Rattle.listing.specs.Read.{wrongKind}
 use Rattle.listing.proofs.Nodes.{nodes-at}
 use borrow.Author.Needs.{needs}

@@ -1,4 +1,4 @@
--- `listing::rules::wrong_mark` meets its contract: each return knows which byte decided. Assumes nothing.
+-- `listing::rules::wrong_mark` meets its contract: each return knows which byte decided.
 use borrow.Author.Needs.{needs}
 use borrow.Author.Tests.{eq-eqb, ne-eqb}
 use mathlib.Core.Path.{_≡_}

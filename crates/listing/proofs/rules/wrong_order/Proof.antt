@@ -1,4 +1,4 @@
--- `listing::rules::wrong_order` meets its contract. Assumes nothing.
+-- `listing::rules::wrong_order` meets its contract.
 use borrow.Author.Tests.{eq-eqb, ne-eqb}
 use mathlib.Core.Path.{sym}
 use denote.Ref.{now}

@@ -1,4 +1,4 @@
--- `listing::rules::wrong_routine` meets its contract. Assumes nothing.
+-- `listing::rules::wrong_routine` meets its contract.
 use Rattle.listing.specs.Read.{wrongRoutine}
 use Rattle.listing.proofs.Nodes.{nodes-at}
 use borrow.Author.Needs.{needs}

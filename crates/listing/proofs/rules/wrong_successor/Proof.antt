@@ -1,4 +1,4 @@
--- `listing::rules::wrong_successor` meets its contract. Assumes nothing.
+-- `listing::rules::wrong_successor` meets its contract.
 use mathlib.Core.Path.{sym}
 use denote.Ref.{now}
 use Rattle.listing.specs.Read.{wrongSuccessor}

@@ -1,4 +1,4 @@
--- `say::nodes::nodes` is safe: each node that it asks for is one of the listing. Assumes nothing.
+-- `say::nodes::nodes` is safe: each node that it asks for is one of the listing.
 use Prim.Native.Nat.{_-_}
 use borrow.Author.Needs.{needs}
 use Rattle.say.proofs.nodes.nodes.Statement.{statement}

@@ -1,4 +1,4 @@
--- `say::nodes::shown` is safe: a listing that was read is whole. Assumes nothing.
+-- `say::nodes::shown` is safe: a listing that was read is whole.
 use Rattle.listing.proofs.Reading.{admitted-whole}
 use Rattle.listing.proofs.ReadPromise.{read-good}
 use borrow.Author.Needs.{needs}
