@@ -8,7 +8,7 @@ use native.Mathlib.Decide.{decLe}
 use borrow.Author.Tests.{ne-eqb, eq-eqb}
 use lib.Dec.{eqb}
 use lib.ListN.{length, getD, set}
-use Rattle.chains.specs.Levels.{free, unset}
+use Rattle.chains.specs.Inner.Levels.{free, unset}
 
 free-le : (b : Bool) → free b ≤ 1
 free-le true = omega arith

@@ -1,4 +1,1 @@
-pub mod Far
-pub mod Best
-pub mod Levels
-pub mod Descent
+pub mod Inner

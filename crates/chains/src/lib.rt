@@ -2,11 +2,11 @@
 ghost use mathlib.Core.Path.{_≡_};
 ghost use Prim.Native.Nat.{ℕ, _+_, _*_, _<_, _≤_};
 ghost use lib.ListN.{length, getD};
-ghost use Rattle.reach.specs.Rows.{Tells, Has, Link, Meet};
-ghost use Rattle.chains.specs.Far.{Far, Target};
-ghost use Rattle.chains.specs.Best.{Asked, Shown};
-ghost use Rattle.chains.specs.Levels.{Starts, Marked, AtLevel, Visited, Swept, Went};
-ghost use Rattle.chains.specs.Descent.{Nearest, Nearer, FirstMid, FirstEnd, Downhill, Wrote, Descent};
+ghost use Rattle.reach.specs.Inner.Rows.{Tells, Has, Link, Meet};
+ghost use Rattle.chains.specs.Inner.Far.{Far, Target};
+ghost use Rattle.chains.specs.Inner.Best.{Asked, Shown};
+ghost use Rattle.chains.specs.Inner.Levels.{Starts, Marked, AtLevel, Visited, Swept, Went};
+ghost use Rattle.chains.specs.Inner.Descent.{Nearest, Nearer, FirstMid, FirstEnd, Downhill, Wrote, Descent};
 use listing::Listing;
 use reach::WORDS;
 

@@ -12,15 +12,16 @@ use Rattle.listing.specs.Bytes.{countN, nodesOf}
 use Rattle.listing.specs.Node.{Listing}
 use Rattle.order.specs.Walks.{kindAt, locAt, isRead, isWrite, isRmw, isAccess}
 use Rattle.order.specs.Chains.{surely, SurelyMeet, IsPair}
-use Rattle.order.specs.Need.{Entry, need, leave, leaveUnlessRmw, entry, entryOf, numberOf, Says, Needs, RmwInside}
+use Rattle.order.specs.Need.{Entry, need, leave, leaveUnlessRmw, entry, Says, Needs, RmwInside}
+use Rattle.order.specs.Inner.Table.{entryOf, numberOf}
 use Rattle.order.specs.Verdict.{Fails}
 use Rattle.order.proofs.Bools.{one→}
 use Rattle.order.proofs.Laws.{access-in}
 use Rattle.order.proofs.Entries.{number-leave, number-need, number-unless, number-below, entry-of}
-use Rattle.reach.specs.Rows.{Has, Tells, Holds}
-use Rattle.reach.specs.Touched.{Next}
-use Rattle.fails.specs.Failing.{Suspect, Exchanged}
-use Rattle.failing.specs.First.{Prepared}
+use Rattle.reach.specs.Inner.Rows.{Has, Tells, Holds}
+use Rattle.reach.specs.Inner.Touched.{Next}
+use Rattle.fails.specs.Inner.Failing.{Suspect, Exchanged}
+use Rattle.failing.specs.Inner.First.{Prepared}
 use Rattle.fails.proofs.Tests.{no-fails, told-yes}
 
 -- an access's kind is one of the table's

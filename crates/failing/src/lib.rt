@@ -2,8 +2,8 @@
 ghost use Prim.Native.Nat.{_<_};
 ghost use Rattle.listing.specs.Bytes.{countN, nodesOf};
 ghost use Rattle.order.specs.Verdict.{Fails};
-ghost use Rattle.reach.specs.Rows.{Tells};
-ghost use Rattle.failing.specs.First.{Prepared, SecondFailing, FirstFailing};
+ghost use Rattle.reach.specs.Inner.Rows.{Tells};
+ghost use Rattle.failing.specs.Inner.First.{Prepared, SecondFailing, FirstFailing};
 use reach::WORDS;
 
 // Whether the pair (a, b) fails.

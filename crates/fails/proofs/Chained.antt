@@ -9,10 +9,10 @@ use Rattle.listing.specs.Node.{Listing}
 use Rattle.order.specs.Walks.{Pair}
 use Rattle.order.specs.Chains.{IsPair}
 use Rattle.order.proofs.Laws.{access-in}
-use Rattle.reach.specs.Rows.{Has, Holds}
-use Rattle.reach.specs.Whole.{Common}
-use Rattle.fails.specs.Back.{ComesRound, Home, Returns, RowReturns}
-use Rattle.fails.specs.Failing.{Meeting, Clear, OnChain, Suspect}
+use Rattle.reach.specs.Inner.Rows.{Has, Holds}
+use Rattle.reach.specs.Inner.Whole.{Common}
+use Rattle.fails.specs.Inner.Back.{ComesRound, Home, Returns, RowReturns}
+use Rattle.fails.specs.Inner.Failing.{Meeting, Clear, OnChain, Suspect}
 use Rattle.fails.proofs.OnChain.{chain-returns, returns-chain}
 
 module _ (L : Listing) (n : ℕ) (size : n ≡ length L) (small : n ≤ 128) (p m w : List ℕ) (hp : Holds p n (Pair L)) (hm : Holds m n (Meeting L)) (hw : Holds w n (ComesRound L)) where

@@ -5,10 +5,10 @@ use mathlib.Core.List.{List}
 use Prim.Native.Nat.{ℕ, _+_, _≤_, _<_}
 use native.Mathlib.Omega.{arith}
 use native.Mathlib.Decide.{decLt, ℕ-discrete}
-use Rattle.reach.specs.Rows.{Has, Holds, Members, Blank}
-use Rattle.reach.specs.Touched.{Added, Poured}
+use Rattle.reach.specs.Inner.Rows.{Has, Holds, Members, Blank}
+use Rattle.reach.specs.Inner.Touched.{Added, Poured}
 use Rattle.reach.proofs.Rows.{poured-gives, poured-keeps, poured-brings}
-use Rattle.fails.specs.Growing.{RowGrown, RowsDone}
+use Rattle.fails.specs.Inner.Growing.{RowGrown, RowsDone}
 
 -- ── A set ───────────────────────────────────────────────────────────────────
 module _ (P : ℕ → Type 0) where

@@ -10,7 +10,7 @@ use Rattle.order.specs.Chains.{MayMeet, Ends, IsPair, Joined, Chain}
 use Rattle.order.proofs.Lists.{row-join, in-all, all-in, in-either}
 use Rattle.order.proofs.Laws.{meets-sym}
 use Rattle.order.proofs.Least.{through}
-use Rattle.fails.specs.Back.{Turns, Leads, Home, Returns}
+use Rattle.fails.specs.Inner.Back.{Turns, Leads, Home, Returns}
 
 module _ (L : Listing) where
   -- a row of pairs that ends before p ends before every pair with p's first node

@@ -14,11 +14,11 @@ use Rattle.order.specs.Need.{bars, Barrier, RmwInside}
 use Rattle.order.proofs.Bools.{one}
 use Rattle.order.proofs.Lists.{all-in, in-all, in-right, Cut, cut, row-join, row-before, row-after}
 use Rattle.order.proofs.Laws.{access-in, walk-in, meets-sym, bars-ends}
-use Rattle.reach.specs.Rows.{Has, Holds, Members, Low, Link}
-use Rattle.reach.specs.Links.{Walked}
-use Rattle.reach.specs.Whole.{Through, Then, Turned, To, Among, Away}
-use Rattle.fails.specs.Back.{Turns, Leads, ComesRound, RowRound}
-use Rattle.fails.specs.Failing.{Meeting, Clear, Exchanged}
+use Rattle.reach.specs.Inner.Rows.{Has, Holds, Members, Low, Link}
+use Rattle.reach.specs.Inner.Links.{Walked}
+use Rattle.reach.specs.Inner.Whole.{Through, Then, Turned, To, Among, Away}
+use Rattle.fails.specs.Inner.Back.{Turns, Leads, ComesRound, RowRound}
+use Rattle.fails.specs.Inner.Failing.{Meeting, Clear, Exchanged}
 use Rattle.fails.proofs.Tests.{not-true, true-not}
 use Rattle.fails.proofs.OnChain.{turns-lead, lead-turns}
 

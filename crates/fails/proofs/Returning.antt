@@ -5,12 +5,12 @@ use mathlib.Core.List.{List}
 use Prim.Native.Nat.{ℕ, _≤_, _<_}
 use native.Mathlib.Omega.{arith}
 use native.Mathlib.Decide.{ℕ-discrete}
-use Rattle.reach.specs.Rows.{at, Has, Low, Blank}
-use Rattle.reach.specs.Touched.{Removed, Poured, Sifted, Least}
+use Rattle.reach.specs.Inner.Rows.{at, Has, Low, Blank}
+use Rattle.reach.specs.Inner.Touched.{Removed, Poured, Sifted, Least}
 use Rattle.reach.proofs.Rows.{at-le}
-use Rattle.fails.specs.Back.{RowReturns}
-use Rattle.fails.specs.Growing.{RowGrown}
-use Rattle.fails.specs.Returning.{Copied, HomeEnds, Answered}
+use Rattle.fails.specs.Inner.Back.{RowReturns}
+use Rattle.fails.specs.Inner.Growing.{RowGrown}
+use Rattle.fails.specs.Inner.Returning.{Copied, HomeEnds, Answered}
 
 -- ── A row that is poured into, or sifted ────────────────────────────────────
 module _ (u w v : List ℕ) (a k : ℕ) where

@@ -6,8 +6,8 @@ use lib.Dec.{T}
 use Rattle.listing.specs.Node.{Listing}
 use Rattle.order.specs.Walks.{locAt, Access}
 use Rattle.order.specs.Chains.{overlap}
-use Rattle.reach.specs.Rows.{Tells}
-use Rattle.fails.specs.Failing.{Meeting}
+use Rattle.reach.specs.Inner.Rows.{Tells}
+use Rattle.fails.specs.Inner.Failing.{Meeting}
 
 pub yes-holds : {r b : Bool} → r ≡ true → r ≡ b → T b
 yes-holds p e = subst T (sym p ∙ e) tt

@@ -2,17 +2,18 @@
 ghost use mathlib.Core.Path.{_≡_};
 ghost use Prim.Native.Nat.{_<_, _≤_};
 ghost use lib.Dec.{T};
-ghost use Rattle.listing.specs.Bytes.{countN, nodesOf, Whole};
+ghost use Rattle.listing.specs.Bytes.{countN, nodesOf};
+ghost use Rattle.listing.specs.Inner.Whole.{Whole};
 ghost use Rattle.order.specs.Walks.{kindAt, locAt, Access, Pair};
 ghost use Rattle.order.specs.Chains.{overlap};
-ghost use Rattle.reach.specs.Rows.{Tells, Low, Holds, Members};
-ghost use Rattle.reach.specs.Touched.{Poured};
-ghost use Rattle.reach.specs.Whole.{Common};
-ghost use Rattle.fails.specs.Picked.{picked};
-ghost use Rattle.fails.specs.Growing.{RowGrown, RowsDone};
-ghost use Rattle.fails.specs.Failing.{Meeting, Twin, Clear, Exchanged, Ready};
-ghost use Rattle.fails.specs.Back.{ComesRound, RowRound, RowReturns};
-ghost use Rattle.fails.specs.Returning.{Copied, HomeEnds, Answered};
+ghost use Rattle.reach.specs.Inner.Rows.{Tells, Low, Holds, Members};
+ghost use Rattle.reach.specs.Inner.Touched.{Poured};
+ghost use Rattle.reach.specs.Inner.Whole.{Common};
+ghost use Rattle.fails.specs.Inner.Picked.{picked};
+ghost use Rattle.fails.specs.Inner.Growing.{RowGrown, RowsDone};
+ghost use Rattle.fails.specs.Inner.Failing.{Meeting, Twin, Clear, Exchanged, Ready};
+ghost use Rattle.fails.specs.Inner.Back.{ComesRound, RowRound, RowReturns};
+ghost use Rattle.fails.specs.Inner.Returning.{Copied, HomeEnds, Answered};
 use reach::WORDS;
 
 // Which nodes to gather.

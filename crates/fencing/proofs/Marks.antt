@@ -9,7 +9,7 @@ use lib.ListN.{length, getD, drop, length-map, drop-of-length-le, List·getD-map
 use lib.Seq.{drop-cons}
 use Rattle.order.specs.Patched.{Marks, marked, places}
 use Rattle.fencing.specs.Marks.{isMark, marksOf}
-use Rattle.fencing.specs.Putting.{nextAfter}
+use Rattle.fencing.specs.Inner.Putting.{nextAfter}
 
 pub marks-length : (bytes : List ℕ) → length (marksOf bytes) ≡ length bytes
 unfolding marksOf

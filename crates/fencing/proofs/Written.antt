@@ -15,7 +15,8 @@ use Rattle.listing.proofs.RoundTrip.{bytes-length, read-countF, read-written}
 use Rattle.listing.proofs.Valid.{admitted-valid, valid-admitted}
 use Rattle.order.specs.Patched.{places, patched}
 use Rattle.order.proofs.Patch.{length-patched}
-use Rattle.fencing.specs.Marks.{marksOf, MapFits}
+use Rattle.fencing.specs.Marks.{marksOf}
+use Rattle.fencing.specs.Inner.MapFits.{MapFits}
 use Rattle.fencing.specs.Written.{Fenced, Written}
 use Rattle.fencing.proofs.Marks.{marks-length}
 use Rattle.fencing.proofs.PatchedValid.{patched-valid}

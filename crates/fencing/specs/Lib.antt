@@ -1,3 +1,3 @@
 pub mod Marks
-pub mod Putting
 pub mod Written
+pub mod Inner

@@ -8,8 +8,9 @@ ghost use Rattle.listing.specs.Node.{node};
 ghost use Rattle.listing.specs.Bytes.{countF, countN, recordAt, nodesOf, nodeBytes, nodesBytes, bytesOf};
 ghost use Rattle.listing.specs.Answer.{filled};
 ghost use Rattle.order.specs.Patched.{marked, places, kept, fences, patched};
-ghost use Rattle.fencing.specs.Marks.{marksOf, MapFits};
-ghost use Rattle.fencing.specs.Putting.{keptAs, fenceIf, nextAfter};
+ghost use Rattle.fencing.specs.Marks.{marksOf};
+ghost use Rattle.fencing.specs.Inner.MapFits.{MapFits};
+ghost use Rattle.fencing.specs.Inner.Putting.{keptAs, fenceIf, nextAfter};
 use listing::Listing;
 
 // Whether the map asks for a fence after node i.

@@ -8,8 +8,10 @@ use native.Mathlib.Numerals.{add-one}
 use lib.ListN.{length}
 use borrow.Author.Tests.{eqb-true, not-false, ltb-false}
 use Rattle.listing.specs.Limits.{NODES}
-use Rattle.listing.specs.Bytes.{countN, countF, recordAt, Whole}
-use Rattle.listing.specs.Rules.{Refusal, passed, firstOf, numbered, NoneApplies}
+use Rattle.listing.specs.Bytes.{countN, countF, recordAt}
+use Rattle.listing.specs.Inner.Whole.{Whole}
+use Rattle.listing.specs.Rules.{Refusal, passed, firstOf, NoneApplies}
+use Rattle.listing.specs.Inner.Numbered.{numbered}
 use Rattle.listing.specs.Answer.{done, refusal}
 use Rattle.listing.specs.Read.{headingRules, nodeRules, nodesRules, readRules, Admitted, readBy, readOf}
 use Rattle.listing.proofs.Table.{pass, stop, pass-first, numbered-some, numbered-none, none-applies}

@@ -4,7 +4,8 @@ use mathlib.Core.Bool.{Bool, true, false, cond}
 use mathlib.Core.List.{List, [], _∷_, _++_}
 use Prim.Native.Nat.{ℕ, zero, suc}
 use native.Mathlib.Omega.{arith}
-use Rattle.listing.specs.Rules.{Rule, Refusal, passed, refused, orElse, firstOf, numbered, First, here, later, NoneApplies}
+use Rattle.listing.specs.Rules.{Rule, Refusal, passed, refused, firstOf, First, here, later, NoneApplies}
+use Rattle.listing.specs.Inner.Numbered.{orElse, numbered}
 
 -- one table after another
 push : (t : Bool) (k p : ℕ) (y z : Refusal) → cond t (refused k p) (orElse y z) ≡ orElse (cond t (refused k p) y) z

@@ -67,8 +67,3 @@ nodesBytes (n ∷ ns) = nodeBytes n ++ nodesBytes ns
 -- the bytes of a listing of f routines
 unfoldable pub bytesOf : ℕ → Listing → List ℕ
 bytesOf f L = headingBytes f (length L) ++ nodesBytes L
-
--- the bytes hold the records of all their nodes: what an accessor needs, and what every admitted listing has
-pub record Whole (s : List ℕ) : Type 0 where
-  pub few : countN s ≤ NODES
-  pub long : recordAt (countN s) ≤ length s

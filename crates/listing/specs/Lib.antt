@@ -5,3 +5,4 @@ pub mod Rules
 pub mod Answer
 pub mod Read
 pub mod Valid
+pub mod Inner

@@ -32,13 +32,3 @@ pub data First : List Rule → ℕ → ℕ → Type 0 where
 abbrev pub NoneApplies : List Rule → Type 0
 NoneApplies [] = Unit
 NoneApplies (r ∷ rs) = (r .when ≡ false) × NoneApplies rs
-
--- one table after another
-abbrev pub orElse : Refusal → Refusal → Refusal
-orElse passed y = y
-orElse (refused k p) y = refused k p
-
--- the number by which a check of the code says its refusal: 0 where nothing is refused
-abbrev pub numbered : ℕ → ℕ → Refusal
-numbered zero p = passed
-numbered (suc k) p = refused (suc k) p

@@ -7,7 +7,8 @@ ghost use lib.ListN.{length};
 ghost use lib.Seq.{sets};
 ghost use Rattle.listing.specs.Limits.{NODES, HEADING};
 ghost use Rattle.listing.specs.Node.{node};
-ghost use Rattle.listing.specs.Bytes.{countF, countN, recordAt, nodesOf, headingBytes, nodeBytes, Whole};
+ghost use Rattle.listing.specs.Bytes.{countF, countN, recordAt, nodesOf, headingBytes, nodeBytes};
+ghost use Rattle.listing.specs.Inner.Whole.{Whole};
 ghost use Rattle.listing.specs.Read.{readSays, readOf};
 
 // A listing that was read: its counts. The four limits are its own.

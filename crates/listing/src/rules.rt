@@ -3,8 +3,10 @@ ghost use mathlib.Core.Path.{_≡_};
 ghost use Prim.Native.Nat.{_<_, _≤_};
 ghost use lib.ListN.{length};
 ghost use Rattle.listing.specs.Limits.{HEADING};
-ghost use Rattle.listing.specs.Bytes.{countN, versionOf, Whole};
-ghost use Rattle.listing.specs.Rules.{firstOf, numbered};
+ghost use Rattle.listing.specs.Bytes.{countN, versionOf};
+ghost use Rattle.listing.specs.Inner.Whole.{Whole};
+ghost use Rattle.listing.specs.Rules.{firstOf};
+ghost use Rattle.listing.specs.Inner.Numbered.{numbered};
 ghost use Rattle.listing.specs.Read.{
   wrongMark,
   headingRules,

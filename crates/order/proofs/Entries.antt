@@ -5,7 +5,8 @@ use Prim.Native.Nat.{ℕ, _<_}
 use native.Mathlib.Omega.{arith}
 use lib.Dec.{T}
 use Rattle.order.specs.Walks.{isAccess}
-use Rattle.order.specs.Need.{Entry, need, leave, leaveUnlessRmw, entry, entryOf, numberOf}
+use Rattle.order.specs.Need.{Entry, need, leave, leaveUnlessRmw, entry}
+use Rattle.order.specs.Inner.Table.{entryOf, numberOf}
 
 pub number-leave : (e : Entry) → numberOf e ≡ 0 → e ≡ leave
 number-leave leave h = refl

@@ -7,3 +7,4 @@ pub mod Steps
 pub mod Patched
 pub mod Proposed
 pub mod Cases
+pub mod Inner

@@ -23,16 +23,6 @@ entry q k₁ k₂ =
     (cond (eqb q 3) (cond (writeThenRead k₁ k₂) leaveUnlessRmw need)
     (cond (isWrite k₁) leave need)))
 
--- the table of any two kinds: a node that is no access is left
-unfoldable pub entryOf : ℕ → ℕ → ℕ → Entry
-entryOf q k₁ k₂ = cond (isAccess k₁ && isAccess k₂) (entry q k₁ k₂) leave
-
--- an entry's number in the code
-abbrev pub numberOf : Entry → ℕ
-numberOf leave = 0
-numberOf need = 1
-numberOf leaveUnlessRmw = 2
-
 -- "some walk between them has an RMW inside"
 abbrev pub RmwInside : Listing → ℕ → ℕ → Type 0
 RmwInside L a b = (inside : List ℕ) × (c : ℕ) × Walk L a inside b × In c inside × T (isRmw (kindAt L c))

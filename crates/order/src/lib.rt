@@ -3,7 +3,8 @@ ghost use mathlib.Core.Path.{_≡_};
 ghost use Prim.Native.Nat.{_<_, _≤_};
 ghost use Rattle.order.specs.Walks.{isAccess};
 ghost use Rattle.order.specs.Chains as chains;
-ghost use Rattle.order.specs.Need as table;
+ghost use Rattle.order.specs.Need as rules;
+ghost use Rattle.order.specs.Inner.Table as table;
 
 // The need for order: 0 leave, 1 need, 2 leave unless an RMW is inside. By question, first kind and second kind.
 const NEED: [[[u8; 5]; 5]; 4] = [
@@ -78,7 +79,7 @@ pub fn surely(x: usize, y: usize) -> bool
 
 // A node of this kind inside is a barrier, by question and the kinds of the ends.
 pub fn bars(question: u8, first: u8, second: u8, kind: u8) -> bool
-    ensures { λ r. ⌜ r ≡ table.bars question first second kind ⌝ }
+    ensures { λ r. ⌜ r ≡ rules.bars question first second kind ⌝ }
 {
     if kind == 4 {
         return true;

@@ -23,7 +23,8 @@ use Rattle.order.specs.Patched.{places, patched}
 use Rattle.order.proofs.Patch.{Links, length-patched}
 use Rattle.order.proofs.PatchFails.{accepted, acceptance-monotone}
 use Rattle.order.proofs.DemandThree.{robust-ordered, ordered-robust}
-use Rattle.fencing.specs.Marks.{marksOf, MapFits}
+use Rattle.fencing.specs.Marks.{marksOf}
+use Rattle.fencing.specs.Inner.MapFits.{MapFits}
 use Rattle.fencing.proofs.Marks.{marks-length}
 use Rattle.fencing.proofs.PatchedValid.{valid-links}
 use Rattle.verdict.specs.Judging.{questionRules, bufferRules, CHAIN, verdictSays, Told, Judging}

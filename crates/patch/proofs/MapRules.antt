@@ -11,9 +11,11 @@ use Rattle.listing.specs.Rules.{Rule, rule, passed, refused, firstOf}
 use Rattle.listing.specs.Read.{readRules, Admitted}
 use Rattle.listing.proofs.Table.{pass, stop, pass-first, pass-then, none-applies}
 use Rattle.listing.proofs.Reading.{admitted-whole}
-use Rattle.fencing.specs.Marks.{marksOf, MapFits}
+use Rattle.fencing.specs.Marks.{marksOf}
+use Rattle.fencing.specs.Inner.MapFits.{MapFits}
 use Rattle.fencing.proofs.Marks.{next}
-use Rattle.patch.specs.Patching.{byteRules, mapRules, fitRules, patchRules, wrongAt}
+use Rattle.patch.specs.Patching.{byteRules, mapRules, fitRules, patchRules}
+use Rattle.patch.specs.Inner.Checking.{wrongAt}
 
 -- ── Rule 14, byte by byte ───────────────────────────────────────────────────
 module _ (map : List ℕ) (i : ℕ) (past : firstOf (byteRules 0 map) ≡ firstOf (byteRules i (drop i map))) where

@@ -7,13 +7,15 @@ use lib.ListN.{length, take}
 use borrow.Author.Tests.{ltb-false}
 use Rattle.listing.specs.Node.{Listing}
 use Rattle.listing.specs.Bytes.{nodesOf}
-use Rattle.listing.specs.Rules.{Rule, Refusal, passed, refused, orElse, firstOf}
+use Rattle.listing.specs.Rules.{Rule, Refusal, passed, refused, firstOf}
+use Rattle.listing.specs.Inner.Numbered.{orElse}
 use Rattle.listing.specs.Read.{readRules, Admitted}
 use Rattle.listing.specs.Answer.{Answer, done, filled}
 use Rattle.listing.proofs.Nodes.{nodes-length}
 use Rattle.listing.proofs.Table.{none-applies, firstOf-append, pass, pass-first, pass-then}
 use Rattle.order.specs.Patched.{patched}
-use Rattle.fencing.specs.Marks.{marksOf, MapFits}
+use Rattle.fencing.specs.Marks.{marksOf}
+use Rattle.fencing.specs.Inner.MapFits.{MapFits}
 use Rattle.fencing.specs.Written.{Written}
 use Rattle.fencing.proofs.Marks.{marks-length}
 use Rattle.fencing.proofs.PatchedFenced.{patched-fenced, fenced-unique}

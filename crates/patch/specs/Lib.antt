@@ -1,2 +1,3 @@
 pub mod Patching
 pub mod Accepting
+pub mod Inner

@@ -39,15 +39,6 @@ fitRules s ms = rule (ltb NODES (countN s + places ms)) 15 0 ∷ []
 unfoldable pub patchRules : List ℕ → List ℕ → List Rule
 patchRules s map = readRules s ++ (mapRules s map ++ fitRules s (marksOf map))
 
--- the refusal of each case of a check
-abbrev pub checked : Checked → Refusal
-checked checking.Passed = passed
-checked (checking.Refused k p) = refused k p
-
--- 14 where byte r of n is the first such; r is n where there is none
-abbrev pub wrongAt : ℕ → ℕ → Refusal
-wrongAt n r = cond (ltb r n) (refused 14 r) passed
-
 -- ── Judging with a map ──────────────────────────────────────────────────────
 unfoldable pub judgePatchRules : ℕ → List ℕ → List ℕ → List ℕ → List Rule
 judgePatchRules q s map chain = questionRules q ++ (patchRules s map ++ bufferRules CHAIN chain)

@@ -3,25 +3,16 @@ ghost use mathlib.Core.Path.{_≡_};
 ghost use mathlib.Core.List.{_++_};
 ghost use Prim.Native.Nat.{_≤_};
 ghost use lib.ListN.{length};
-ghost use Rattle.listing.specs.Bytes.{nodesOf, Whole};
+ghost use Rattle.listing.specs.Bytes.{nodesOf};
+ghost use Rattle.listing.specs.Inner.Whole.{Whole};
 ghost use Rattle.listing.specs.Rules.{firstOf};
 ghost use Rattle.listing.specs.Read.{Admitted};
 ghost use Rattle.order.specs.Patched.{patched};
 ghost use Rattle.verdict.specs.Judging.{bufferRules, CHAIN, judgeSays, Told};
-ghost use Rattle.fencing.specs.Marks.{marksOf, MapFits};
-ghost use Rattle.patch.specs.Patching.{
-  byteRules,
-  mapRules,
-  fitRules,
-  patchRules,
-  checked,
-  wrongAt,
-  JudgePatchPromise,
-  writeSays,
-  writtenLength,
-  Writing,
-  WritePromise,
-};
+ghost use Rattle.fencing.specs.Marks.{marksOf};
+ghost use Rattle.fencing.specs.Inner.MapFits.{MapFits};
+ghost use Rattle.patch.specs.Patching.{byteRules, mapRules, fitRules, patchRules, JudgePatchPromise, writeSays, writtenLength, Writing, WritePromise};
+ghost use Rattle.patch.specs.Inner.Checking.{checked, wrongAt};
 use listing::Listing;
 use listing::ReadAnswer;
 use verdict::JudgeAnswer;

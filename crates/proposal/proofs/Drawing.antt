@@ -14,11 +14,11 @@ use Rattle.listing.specs.Bytes.{countN, nodesOf}
 use Rattle.listing.proofs.Nodes.{nodes-length}
 use Rattle.order.specs.Verdict.{Fails}
 use Rattle.order.specs.Proposed.{Proposed}
-use Rattle.failing.specs.First.{SecondFailing}
+use Rattle.failing.specs.Inner.First.{SecondFailing}
 use Rattle.failing.proofs.Needing.{failing-in}
 use Rattle.fencing.specs.Marks.{isMark, marksOf}
 use Rattle.fencing.proofs.Marks.{marks-length, marks-at}
-use Rattle.proposal.specs.Marking.{MarkOf, Marked, Drawn}
+use Rattle.proposal.specs.Inner.Marking.{MarkOf, Marked, Drawn}
 
 -- ── One mark ────────────────────────────────────────────────────────────────
 module _ (q : ℕ) (L : Listing) (n a r : ℕ) (second : SecondFailing q L n a r) where

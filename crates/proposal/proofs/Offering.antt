@@ -20,7 +20,7 @@ use Rattle.fencing.proofs.Marks.{next}
 use Rattle.verdict.specs.Judging.{wrongQuestion, bufferRules}
 use Rattle.verdict.proofs.Refusing.{row-applies, row-passes, question-stops, question-passes, buffer-stops, buffer-passes}
 use Rattle.patch.specs.Patching.{fitRules, mapByte, mapBytes, askRules, offerRules, Offered, Proposing, ProposePromise}
-use Rattle.proposal.specs.Marking.{Drawn}
+use Rattle.proposal.specs.Inner.Marking.{Drawn}
 
 -- ── Copying, byte by byte ───────────────────────────────────────────────────
 module _ (from to : List ℕ) (i : ℕ) {goal : List ℕ} (inv : sets to i (drop i from) ≡ goal) where

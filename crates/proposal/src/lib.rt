@@ -2,14 +2,15 @@
 ghost use Prim.Native.Nat.{_<_, _≤_};
 ghost use mathlib.Core.Path.{_≡_};
 ghost use lib.ListN.{length};
-ghost use Rattle.listing.specs.Bytes.{countN, nodesOf, Whole};
+ghost use Rattle.listing.specs.Bytes.{countN, nodesOf};
+ghost use Rattle.listing.specs.Inner.Whole.{Whole};
 ghost use Rattle.listing.specs.Rules.{passed, firstOf};
 ghost use Rattle.listing.specs.Read.{Admitted};
 ghost use Rattle.listing.specs.Answer.{filled};
 ghost use Rattle.fencing.specs.Marks.{marksOf};
-ghost use Rattle.failing.specs.First.{Prepared};
+ghost use Rattle.failing.specs.Inner.First.{Prepared};
 ghost use Rattle.patch.specs.Patching.{proposeSays, offerRules, Offered, Proposing, ProposePromise};
-ghost use Rattle.proposal.specs.Marking.{MarkOf, Marked, Drawn};
+ghost use Rattle.proposal.specs.Inner.Marking.{MarkOf, Marked, Drawn};
 use listing::Listing;
 use listing::ReadAnswer;
 use patch::ProposeAnswer;

@@ -8,8 +8,8 @@ use native.Mathlib.Decide.{decLt, ℕ-discrete}
 use lib.Pow.{pow-pos, pow-lt, pow-mono, pow-add, shl-exact, shl-shr, shr-shr, shr-le}
 use lib.Count.{trailingZeros, under}
 use lib.Bits.{bitOr, bitAnd, bitXor, differ, or-step, or-shr, and-step, and-shr, xor-step, xor-shr, and-lt}
-use Rattle.reach.specs.Rows.{bit}
-use Rattle.reach.specs.Touched.{Lowest}
+use Rattle.reach.specs.Inner.Rows.{bit}
+use Rattle.reach.specs.Inner.Touched.{Lowest}
 
 low-or : (x y : ℕ) → bitOr x y % 2 ≡ max (x % 2) (y % 2)
 low-or x y = omega (arith, or-step x y)

@@ -2,7 +2,7 @@
 use mathlib.Core.List.{List}
 use Prim.Native.Nat.{ℕ, _≤_, _<_}
 use native.Mathlib.Omega.{arith}
-use Rattle.reach.specs.Rows.{Has, Holds, Members, Low, Link, Blank}
+use Rattle.reach.specs.Inner.Rows.{Has, Holds, Members, Low, Link, Blank}
 
 pub blank-low : (n : ℕ) (w : List ℕ) → Blank w → Low n w
 blank-low n w z a b hb h = absurd (z a b hb h)

@@ -8,9 +8,9 @@ use lib.ListN.{length}
 use Rattle.listing.specs.Node.{Listing}
 use Rattle.order.specs.Rows.{All}
 use Rattle.order.specs.Walks.{Walk}
-use Rattle.reach.specs.Rows.{Has, Holds, Members}
-use Rattle.reach.specs.Whole.{Then, Turned, From, To, Among, Away, Common, United}
-use Rattle.reach.specs.Links.{Walked}
+use Rattle.reach.specs.Inner.Rows.{Has, Holds, Members}
+use Rattle.reach.specs.Inner.Whole.{Then, Turned, From, To, Among, Away, Common, United}
+use Rattle.reach.specs.Inner.Links.{Walked}
 use Rattle.reach.proofs.Holds.{holds-map}
 
 module _ {n : ℕ} (hn : n ≤ 128) where

@@ -5,9 +5,9 @@ use mathlib.Core.List.{List}
 use Prim.Native.Nat.{ℕ, _+_, _<_}
 use native.Mathlib.Omega.{arith}
 use native.Mathlib.Decide.{decLt, ℕ-discrete}
-use Rattle.reach.specs.Rows.{at, Has}
-use Rattle.reach.specs.Touched.{Poured}
-use Rattle.reach.specs.Whole.{Passed}
+use Rattle.reach.specs.Inner.Rows.{at, Has}
+use Rattle.reach.specs.Inner.Touched.{Poured}
+use Rattle.reach.specs.Inner.Whole.{Passed}
 use Rattle.reach.proofs.Rows.{poured-gives, poured-keeps, poured-brings}
 
 pub passed-none : (w : List ℕ) (k : ℕ) → Passed w w 0 k

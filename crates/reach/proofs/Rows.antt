@@ -12,10 +12,10 @@ use lib.Dec.{eqb}
 use lib.Bits.{bitOr, bitAnd, and-zero-l, or-zero-l}
 use lib.ListN.{length, getD, set, length-set, List·getD-eq-default}
 use lib.Seq.{getD-set-same, getD-set-other}
-use Rattle.reach.specs.Rows.{Tells, bit, at, Has, Blank, Meet}
-use Rattle.reach.specs.Touched.{Added, Removed, Mixed, Poured, Emptied, Lowest, Next, Alike}
-use Rattle.reach.specs.Whole.{Common, United}
-use Rattle.reach.specs.Links.{Covers}
+use Rattle.reach.specs.Inner.Rows.{Tells, bit, at, Has, Blank, Meet}
+use Rattle.reach.specs.Inner.Touched.{Added, Removed, Mixed, Poured, Emptied, Lowest, Next, Alike}
+use Rattle.reach.specs.Inner.Whole.{Common, United}
+use Rattle.reach.specs.Inner.Links.{Covers}
 use Rattle.reach.proofs.Bit.{hot, bitLess, bit-or, bit-and, bit-le, bit-less, bit-zero, common-bit, no-common, bit-hot-same, bit-hot-other}
 
 -- a bit is 0 or 1

@@ -11,10 +11,10 @@ use Rattle.listing.specs.Node.{Listing, node}
 use Rattle.order.specs.Rows.{All, Row}
 use Rattle.order.specs.Walks.{Next, Succ, Walk}
 use Rattle.order.proofs.Lists.{row-join}
-use Rattle.reach.specs.Rows.{Has, Holds, Link}
-use Rattle.reach.specs.Touched.{Poured}
-use Rattle.reach.specs.Whole.{Through}
-use Rattle.reach.specs.Links.{Walked, Vouches, Begun, Pulled, Covers, Calm, Settled}
+use Rattle.reach.specs.Inner.Rows.{Has, Holds, Link}
+use Rattle.reach.specs.Inner.Touched.{Poured}
+use Rattle.reach.specs.Inner.Whole.{Through}
+use Rattle.reach.specs.Inner.Links.{Walked, Vouches, Begun, Pulled, Covers, Calm, Settled}
 use Rattle.reach.proofs.Rows.{poured-gives, poured-keeps}
 use Rattle.reach.proofs.Loading.{row-map}
 

@@ -3,7 +3,7 @@ use mathlib.Core.Path.{_≡_}
 use mathlib.Core.Bool.{Bool, true, false, not}
 use Prim.Native.Nat.{ℕ}
 use native.Mathlib.Omega.{arith}
-use Rattle.reach.specs.Rows.{Tells}
+use Rattle.reach.specs.Inner.Rows.{Tells}
 
 -- what the test of a negation says
 pub tells-no : (A : Type 0) (b : Bool) → not b ≡ true → Tells b A → A → ⊥

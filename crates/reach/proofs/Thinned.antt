@@ -5,9 +5,9 @@ use mathlib.Core.List.{List}
 use Prim.Native.Nat.{ℕ, _+_, _≤_, _<_}
 use native.Mathlib.Omega.{arith}
 use native.Mathlib.Decide.{decLt, ℕ-discrete}
-use Rattle.reach.specs.Rows.{at, Has, Holds, Low, Blank}
-use Rattle.reach.specs.Touched.{Removed, Sifted, Emptied}
-use Rattle.reach.specs.Whole.{From, To, Among, United}
+use Rattle.reach.specs.Inner.Rows.{at, Has, Holds, Low, Blank}
+use Rattle.reach.specs.Inner.Touched.{Removed, Sifted, Emptied}
+use Rattle.reach.specs.Inner.Whole.{From, To, Among, United}
 use Rattle.reach.proofs.Rows.{at-le}
 use Rattle.reach.proofs.Holds.{holds-map}
 

@@ -1,4 +1,1 @@
-pub mod Rows
-pub mod Touched
-pub mod Whole
-pub mod Links
+pub mod Inner

@@ -2,11 +2,12 @@
 ghost use mathlib.Core.Path.{_≡_};
 ghost use Prim.Native.Nat.{_+_, _*_, _<_, _≤_, min};
 ghost use lib.ListN.{length};
-ghost use Rattle.reach.specs.Rows.{Tells, Has, Holds, Low, Blank, Meet};
-ghost use Rattle.reach.specs.Touched.{Added, Removed, Poured, Sifted, Emptied, Lowest, Next, Least, Alike, Earlier};
-ghost use Rattle.reach.specs.Whole.{Through, Then, Turned, From, To, Among, Away, Common, United, Passed, Pouring, Turning};
-ghost use Rattle.reach.specs.Links.{Linked, Walked, Vouches, Covers, Calm, Pulled, Settled, Begun};
-ghost use Rattle.listing.specs.Bytes.{countN, nodesOf, Whole};
+ghost use Rattle.reach.specs.Inner.Rows.{Tells, Has, Holds, Low, Blank, Meet};
+ghost use Rattle.reach.specs.Inner.Touched.{Added, Removed, Poured, Sifted, Emptied, Lowest, Next, Least, Alike, Earlier};
+ghost use Rattle.reach.specs.Inner.Whole.{Through, Then, Turned, From, To, Among, Away, Common, United, Passed, Pouring, Turning};
+ghost use Rattle.reach.specs.Inner.Links.{Linked, Walked, Vouches, Covers, Calm, Pulled, Settled, Begun};
+ghost use Rattle.listing.specs.Bytes.{countN, nodesOf};
+ghost use Rattle.listing.specs.Inner.Whole.{Whole};
 ghost use Rattle.order.specs.Walks.{Succ};
 use listing::Listing;
 

@@ -1,6 +1,7 @@
 // A listing for a person: a line a node.
 ghost use Prim.Native.Nat.{_<_};
-ghost use Rattle.listing.specs.Bytes.{countN, Whole};
+ghost use Rattle.listing.specs.Bytes.{countN};
+ghost use Rattle.listing.specs.Inner.Whole.{Whole};
 use crate::explained;
 use crate::next;
 use crate::text;

@@ -12,11 +12,11 @@ use Rattle.listing.specs.Answer.{done, openAt}
 use Rattle.listing.proofs.Reading.{admitted-whole}
 use Rattle.order.specs.Chains.{Ends}
 use Rattle.order.specs.Verdict.{Fails, Robust, Before, First, robust, opened}
-use Rattle.reach.specs.Rows.{Holds}
-use Rattle.fails.specs.Failing.{Ready, Exchanged}
-use Rattle.failing.specs.First.{Prepared, SecondFailing, FirstFailing}
+use Rattle.reach.specs.Inner.Rows.{Holds}
+use Rattle.fails.specs.Inner.Failing.{Ready, Exchanged}
+use Rattle.failing.specs.Inner.First.{Prepared, SecondFailing, FirstFailing}
 use Rattle.verdict.specs.Judging.{Told}
-use Rattle.verdict.specs.Showing.{Chained, Showed}
+use Rattle.verdict.specs.Inner.Showing.{Chained, Showed}
 
 -- ROBUST: no pair fails, and nothing is written
 pub told-robust : (q : ℕ) (L : Listing) (old : List ℕ) → Robust q L → Told q L old old (done 0 0 0)

@@ -8,10 +8,10 @@ use Rattle.listing.specs.Node.{Listing}
 use Rattle.order.specs.Walks.{Access, Pair}
 use Rattle.order.specs.Chains.{Ends}
 use Rattle.order.proofs.Laws.{access-in, meets-sym}
-use Rattle.reach.specs.Rows.{Has, Holds, Members, Link}
-use Rattle.reach.specs.Touched.{Removed}
-use Rattle.fails.specs.Failing.{Meeting}
-use Rattle.chains.specs.Far.{Target}
+use Rattle.reach.specs.Inner.Rows.{Has, Holds, Members, Link}
+use Rattle.reach.specs.Inner.Touched.{Removed}
+use Rattle.fails.specs.Inner.Failing.{Meeting}
+use Rattle.chains.specs.Inner.Far.{Target}
 use Rattle.verdict.proofs.Shortest.{Kept}
 
 module _ (L : Listing) (n : ℕ) (size : n ≡ length L) (small : n ≤ 128) (p m w t : List ℕ) (a b : ℕ) (from : Access L a) (hp : Holds p n (Pair L)) (hm : Holds m n (Meeting L)) (hw : Removed p w a b) (ht : Members t n (Has m a)) where

@@ -13,7 +13,7 @@ use Rattle.order.specs.Verdict.{Before, Smaller, Shown}
 use Rattle.order.proofs.Laws.{enough-some}
 use Rattle.order.proofs.Rounds.{Round, chain-round}
 use Rattle.order.proofs.Least.{Best, best-shown}
-use Rattle.chains.specs.Best as hops
+use Rattle.chains.specs.Inner.Best as hops
 use Rattle.verdict.specs.Judging.{chainBytes}
 
 pub chain-length : (ps : List Ends) → length (chainBytes ps) ≡ 2 * length ps

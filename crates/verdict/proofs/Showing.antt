@@ -8,7 +8,8 @@ use lib.ListN.{length, take, drop, set, take-append-drop}
 use lib.Seq.{take-length, drop-length}
 use borrow.Rule.Slice.PartMut.{putMid, midOf, postOf}
 use Rattle.listing.specs.Node.{Listing}
-use Rattle.listing.specs.Bytes.{countN, nodesOf, Whole}
+use Rattle.listing.specs.Bytes.{countN, nodesOf}
+use Rattle.listing.specs.Inner.Whole.{Whole}
 use Rattle.listing.specs.Answer.{filled}
 use Rattle.listing.proofs.Nodes.{nodes-length}
 use Rattle.order.specs.Rows.{Some}
@@ -16,13 +17,13 @@ use Rattle.order.specs.Chains.{Ends}
 use Rattle.order.specs.Verdict.{Shown}
 use Rattle.order.proofs.Laws.{access-in}
 use Rattle.order.proofs.Least.{shown-bound}
-use Rattle.reach.specs.Rows.{at, Has, Holds, Members, Low, Link}
-use Rattle.reach.specs.Touched.{Removed}
-use Rattle.fails.specs.Returning.{Copied}
-use Rattle.chains.specs.Far.{Target}
-use Rattle.chains.specs.Best as hops
+use Rattle.reach.specs.Inner.Rows.{at, Has, Holds, Members, Low, Link}
+use Rattle.reach.specs.Inner.Touched.{Removed}
+use Rattle.fails.specs.Inner.Returning.{Copied}
+use Rattle.chains.specs.Inner.Far.{Target}
+use Rattle.chains.specs.Inner.Best as hops
 use Rattle.verdict.specs.Judging.{chainBytes}
-use Rattle.verdict.specs.Showing.{Chained, Followed, Showed}
+use Rattle.verdict.specs.Inner.Showing.{Chained, Followed, Showed}
 use Rattle.verdict.proofs.Shortest.{Kept, chain-length, best-by-rows, some-by-rows}
 use Rattle.verdict.proofs.Rows.{kept-rows}
 

@@ -5,7 +5,7 @@ ghost use lib.ListN.{length};
 ghost use Rattle.listing.specs.Bytes.{countN, nodesOf};
 ghost use Rattle.listing.specs.Read.{Admitted};
 ghost use Rattle.verdict.specs.Judging.{CHAIN, wrongQuestion, judgeSays, Told, JudgePromise};
-ghost use Rattle.verdict.specs.Showing.{Chained, Followed, Showed};
+ghost use Rattle.verdict.specs.Inner.Showing.{Chained, Followed, Showed};
 use listing::Listing;
 use listing::ReadAnswer;
 use reach::WORDS;

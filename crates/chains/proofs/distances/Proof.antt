@@ -1,7 +1,7 @@
 -- `chains::distances` meets its contract.
 use borrow.Author.Needs.{needs}
 use native.Mathlib.Omega.{arith}
-use Rattle.chains.specs.Levels.{unset}
+use Rattle.chains.specs.Inner.Levels.{unset}
 use Rattle.chains.proofs.Levels.{Level, level-start, level-more, level-end}
 use Rattle.chains.proofs.distances.Statement.{statement}
 use Rattle.chains.proofs.distances.Tie as tie

@@ -1,6 +1,6 @@
 -- `chains::is_end` meets its contract.
 use borrow.Author.Needs.{needs}
-use Rattle.reach.specs.Rows.{Has}
+use Rattle.reach.specs.Inner.Rows.{Has}
 use Rattle.reach.proofs.Tells.{tells-and}
 use Rattle.chains.proofs.is_end.Statement.{statement}
 use Rattle.chains.proofs.is_end.Tie as tie

@@ -1,6 +1,6 @@
 -- `chains::is_mid` meets its contract.
 use borrow.Author.Needs.{needs}
-use Rattle.reach.specs.Rows.{Has, Meet}
+use Rattle.reach.specs.Inner.Rows.{Has, Meet}
 use Rattle.reach.proofs.Tells.{tells-and}
 use Rattle.chains.proofs.is_mid.Statement.{statement}
 use Rattle.chains.proofs.is_mid.Tie as tie

@@ -4,7 +4,7 @@ use native.Mathlib.Omega.{arith}
 use mathlib.Core.Path.{_≡_}
 use mathlib.Core.Logic.{⊎-elim}
 use Prim.Native.Nat.{_≤_, _<_, _-_}
-use Rattle.chains.specs.Levels.{AtLevel}
+use Rattle.chains.specs.Inner.Levels.{AtLevel}
 use Rattle.chains.proofs.Levels.{level-none, level-put, level-skip}
 use Rattle.chains.proofs.level.Statement.{statement}
 use Rattle.chains.proofs.level.Tie as tie

@@ -3,7 +3,7 @@ use borrow.Author.Needs.{needs}
 use native.Mathlib.Omega.{arith}
 use mathlib.Core.Path.{_≡_}
 use Prim.Native.Nat.{_≤_, _-_}
-use Rattle.chains.specs.Descent.{Nearest}
+use Rattle.chains.specs.Inner.Descent.{Nearest}
 use Rattle.chains.proofs.Going.{nearest-none, nearest-more}
 use Rattle.chains.proofs.nearest.Statement.{statement}
 use Rattle.chains.proofs.nearest.Tie as tie

@@ -3,7 +3,7 @@ use borrow.Author.Needs.{needs}
 use native.Mathlib.Omega.{arith}
 use mathlib.Core.Path.{_≡_}
 use Prim.Native.Nat.{_≤_, _-_}
-use Rattle.chains.specs.Levels.{Swept}
+use Rattle.chains.specs.Inner.Levels.{Swept}
 use Rattle.chains.proofs.Levels.{swept-none, swept-more}
 use Rattle.chains.proofs.sweep.Statement.{statement}
 use Rattle.chains.proofs.sweep.Tie as tie

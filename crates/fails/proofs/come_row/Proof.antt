@@ -4,9 +4,9 @@ use native.Mathlib.Omega.{arith}
 use mathlib.Core.Path.{_≡_}
 use mathlib.Core.Logic.{⊎-elim}
 use Prim.Native.Nat.{_+_, _-_, _≤_, _<_}
-use Rattle.reach.specs.Rows.{Has}
-use Rattle.fails.specs.Back.{RowRound}
-use Rattle.fails.specs.Growing.{RowGrown}
+use Rattle.reach.specs.Inner.Rows.{Has}
+use Rattle.fails.specs.Inner.Back.{RowRound}
+use Rattle.fails.specs.Inner.Growing.{RowGrown}
 use Rattle.fails.proofs.Growing.{grown-none, grown-put, grown-skip, grown-jump}
 use Rattle.fails.proofs.come_row.Statement.{statement}
 use Rattle.fails.proofs.come_row.Tie as tie

@@ -6,8 +6,8 @@ use mathlib.Core.Logic.{⊎-elim}
 use Prim.Native.Nat.{_≤_, _<_, _-_}
 use Rattle.listing.specs.Bytes.{countN, nodesOf}
 use Rattle.order.specs.Walks.{locAt}
-use Rattle.fails.specs.Failing.{Meeting}
-use Rattle.fails.specs.Growing.{RowGrown}
+use Rattle.fails.specs.Inner.Failing.{Meeting}
+use Rattle.fails.specs.Inner.Growing.{RowGrown}
 use Rattle.fails.proofs.Tests.{meeting-of, of-meeting}
 use Rattle.fails.proofs.Growing.{grown-none, grown-put, grown-skip}
 use Rattle.fails.proofs.fill_meetings.Statement.{statement}

@@ -7,8 +7,8 @@ use Prim.Native.Nat.{_≤_, _<_, _-_}
 use lib.Dec.{T}
 use Rattle.listing.specs.Bytes.{countN, nodesOf}
 use Rattle.order.specs.Walks.{kindAt}
-use Rattle.reach.specs.Rows.{Members}
-use Rattle.fails.specs.Picked.{picked}
+use Rattle.reach.specs.Inner.Rows.{Members}
+use Rattle.fails.specs.Inner.Picked.{picked}
 use Rattle.fails.proofs.Tests.{yes-holds, no-fails}
 use Rattle.fails.proofs.Growing.{members-none, members-put, members-skip}
 use Rattle.fails.proofs.gather.Statement.{statement}

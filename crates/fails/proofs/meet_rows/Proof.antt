@@ -5,9 +5,9 @@ use mathlib.Core.Path.{_≡_}
 use Prim.Native.Nat.{_≤_, _-_}
 use Rattle.listing.specs.Bytes.{countN, nodesOf}
 use Rattle.order.specs.Walks.{Access}
-use Rattle.reach.specs.Rows.{Members}
-use Rattle.fails.specs.Failing.{Meeting}
-use Rattle.fails.specs.Growing.{RowsDone}
+use Rattle.reach.specs.Inner.Rows.{Members}
+use Rattle.fails.specs.Inner.Failing.{Meeting}
+use Rattle.fails.specs.Inner.Growing.{RowsDone}
 use Rattle.fails.proofs.Growing.{rows-none, rows-more, rows-hold}
 use Rattle.fails.proofs.meet_rows.Statement.{statement}
 use Rattle.fails.proofs.meet_rows.Tie as tie

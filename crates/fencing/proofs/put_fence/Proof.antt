@@ -9,7 +9,7 @@ use lib.ListN.{length}
 use Rattle.listing.specs.Node.{node}
 use Rattle.listing.specs.Bytes.{recordAt, nodesOf}
 use Rattle.order.specs.Patched.{fenceAfter}
-use Rattle.fencing.specs.Putting.{nextAfter}
+use Rattle.fencing.specs.Inner.Putting.{nextAfter}
 use Rattle.fencing.proofs.Marks.{one-more}
 use Rattle.fencing.proofs.Putting.{put, fence-bytes, nothing-put}
 use borrow.Author.Needs.{needs}

@@ -6,7 +6,7 @@ use denote.Ref.{now}
 use Rattle.listing.specs.Node.{node}
 use Rattle.listing.specs.Bytes.{recordAt, nodesOf}
 use Rattle.order.specs.Patched.{redirect}
-use Rattle.fencing.specs.Putting.{nextAfter}
+use Rattle.fencing.specs.Inner.Putting.{nextAfter}
 use Rattle.fencing.proofs.Putting.{put, marked-bytes, unmarked-bytes}
 use borrow.Author.Needs.{needs}
 use Rattle.fencing.proofs.put_node.Statement.{statement}

@@ -3,7 +3,7 @@ use mathlib.Core.Path.{_≡_, ap, _∙_}
 use mathlib.Core.List.{List, [], _∷_}
 use Prim.Native.Nat.{ℕ, suc, _-_}
 use native.Mathlib.Omega.{arith}
-use Rattle.order.specs.Need.{entryOf, numberOf}
+use Rattle.order.specs.Inner.Table.{entryOf, numberOf}
 use Rattle.order.proofs.Tables.{right-at}
 use borrow.Author.Needs.{needs}
 use Rattle.order.proofs.need.Statement.{statement}

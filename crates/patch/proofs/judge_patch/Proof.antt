@@ -7,7 +7,8 @@ use denote.Ref.{now}
 use Rattle.listing.specs.Rules.{passed, firstOf}
 use Rattle.verdict.specs.Judging.{wrongQuestion}
 use Rattle.verdict.proofs.Refusing.{question-in}
-use Rattle.patch.specs.Patching.{patchRules, checked}
+use Rattle.patch.specs.Patching.{patchRules}
+use Rattle.patch.specs.Inner.Checking.{checked}
 use Rattle.patch.proofs.MapRules.{passes-admitted, passes-fits}
 use Rattle.patch.proofs.JudgeRules.{wrongly-asked, not-patched, chain-too-short, told-with-map}
 use Rattle.patch.proofs.judge_patch.Statement.{statement}

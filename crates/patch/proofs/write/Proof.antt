@@ -3,7 +3,8 @@ use borrow.Author.Needs.{needs}
 use mathlib.Core.Path.{_≡_, refl, sym, ap, _∙_}
 use denote.Ref.{now}
 use Rattle.listing.specs.Rules.{passed, firstOf}
-use Rattle.patch.specs.Patching.{patchRules, checked}
+use Rattle.patch.specs.Patching.{patchRules}
+use Rattle.patch.specs.Inner.Checking.{checked}
 use Rattle.patch.proofs.MapRules.{passes-fits}
 use Rattle.patch.proofs.WriteRules.{refused-early, passed-early}
 use Rattle.patch.proofs.write.Statement.{statement}

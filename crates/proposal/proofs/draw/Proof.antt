@@ -6,7 +6,7 @@ use borrow.Author.Count.{below-none}
 use denote.Ref.{now}
 use lib.ListN.{length, length-set}
 use Rattle.listing.specs.Bytes.{countN, nodesOf}
-use Rattle.proposal.specs.Marking.{Marked}
+use Rattle.proposal.specs.Inner.Marking.{Marked}
 use Rattle.proposal.proofs.Drawing.{one-drawn}
 use Rattle.proposal.proofs.draw.Statement.{statement}
 use Rattle.proposal.proofs.draw.Tie as tie

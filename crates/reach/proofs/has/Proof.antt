@@ -1,6 +1,6 @@
 -- `reach::has` meets its contract.
 use Rattle.reach.proofs.Rows.{tells-has}
-use Rattle.reach.specs.Rows.{bit}
+use Rattle.reach.specs.Inner.Rows.{bit}
 use mathlib.Core.Path.{refl}
 use borrow.Author.Needs.{needs}
 use Rattle.reach.proofs.has.Statement.{statement}

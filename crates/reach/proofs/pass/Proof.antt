@@ -4,7 +4,7 @@ use native.Mathlib.Omega.{arith}
 use mathlib.Core.Path.{_≡_}
 use mathlib.Core.Logic.{⊎-elim}
 use Prim.Native.Nat.{_≤_, _<_, _-_}
-use Rattle.reach.specs.Whole.{Passed}
+use Rattle.reach.specs.Inner.Whole.{Passed}
 use Rattle.reach.proofs.Rounds.{passed-none, passed-skip, passed-or}
 use Rattle.reach.proofs.pass.Statement.{statement}
 use Rattle.reach.proofs.pass.Tie as tie

@@ -6,7 +6,7 @@ use mathlib.Core.Logic.{inl, inr}
 use Prim.Native.Nat.{_≤_, _<_, _-_}
 use Rattle.listing.specs.Bytes.{countN, nodesOf}
 use Rattle.listing.proofs.Nodes.{nodes-length}
-use Rattle.reach.specs.Links.{Begun}
+use Rattle.reach.specs.Inner.Links.{Begun}
 use Rattle.reach.proofs.Sweeps.{begun-pull}
 use Rattle.reach.proofs.sweep.Statement.{statement}
 use Rattle.reach.proofs.sweep.Tie as tie

@@ -4,7 +4,7 @@ use native.Mathlib.Omega.{arith}
 use Prim.Native.Nat.{_≤_, _-_}
 use Rattle.listing.specs.Bytes.{countN, nodesOf}
 use Rattle.listing.proofs.Nodes.{nodes-length}
-use Rattle.reach.specs.Links.{Begun}
+use Rattle.reach.specs.Inner.Links.{Begun}
 use Rattle.reach.proofs.Sweeps.{begun-links, settled-walks, closed-walks}
 use Rattle.reach.proofs.walks.Statement.{statement}
 use Rattle.reach.proofs.walks.Tie as tie

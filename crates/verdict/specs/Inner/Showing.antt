@@ -4,13 +4,14 @@ use mathlib.Core.List.{List, _∷_}
 use Prim.Native.Nat.{ℕ}
 use lib.ListN.{length}
 use Rattle.listing.specs.Node.{Listing}
-use Rattle.listing.specs.Bytes.{countN, nodesOf, Whole}
+use Rattle.listing.specs.Bytes.{countN, nodesOf}
+use Rattle.listing.specs.Inner.Whole.{Whole}
 use Rattle.listing.specs.Answer.{filled}
 use Rattle.order.specs.Walks.{Pair}
 use Rattle.order.specs.Chains.{Ends}
 use Rattle.order.specs.Verdict.{Shown}
-use Rattle.reach.specs.Rows.{Holds}
-use Rattle.fails.specs.Failing.{Meeting, OnChain}
+use Rattle.reach.specs.Inner.Rows.{Holds}
+use Rattle.fails.specs.Inner.Failing.{Meeting, OnChain}
 use Rattle.verdict.specs.Judging.{chainBytes}
 
 -- the rows p keep the pairs of the listing's bytes, the rows m who meets whom, and (a, b) lies on a chain

@@ -7,7 +7,7 @@ use Rattle.listing.specs.Bytes.{countN, nodesOf}
 use Rattle.order.specs.Walks.{locAt, Access, Walk, Pair}
 use Rattle.order.specs.Chains.{MayMeet, Ends, Chain}
 use Rattle.order.specs.Need.{RmwInside, Unbarred}
-use Rattle.reach.specs.Rows.{Holds}
+use Rattle.reach.specs.Inner.Rows.{Holds}
 
 -- two accesses that may meet
 abbrev pub Meeting : Listing → ℕ → ℕ → Type 0

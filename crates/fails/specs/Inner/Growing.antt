@@ -3,7 +3,7 @@ use mathlib.Core.Path.{_≡_}
 use mathlib.Core.Logic.{_⊎_}
 use mathlib.Core.List.{List}
 use Prim.Native.Nat.{ℕ, _<_}
-use Rattle.reach.specs.Rows.{Has}
+use Rattle.reach.specs.Inner.Rows.{Has}
 
 -- row a of w has got the nodes below n that A names; v is w after
 pub record RowGrown (A : ℕ → ℕ → Type 0) (w v : List ℕ) (a n : ℕ) : Type 0 where

@@ -6,8 +6,8 @@ use mathlib.Core.List.{List, [], _∷_}
 use Prim.Native.Nat.{ℕ, _+_, _≤_, _<_}
 use lib.ListN.{getD}
 use lib.Dec.{eqb}
-use Rattle.reach.specs.Rows.{Has, Link, Meet}
-use Rattle.chains.specs.Far.{Target}
+use Rattle.reach.specs.Inner.Rows.{Has, Link, Meet}
+use Rattle.chains.specs.Inner.Far.{Target}
 
 -- how many have no distance
 abbrev pub free : Bool → ℕ

@@ -4,8 +4,8 @@ use mathlib.Core.List.{List, [], _∷_}
 use Prim.Native.Nat.{ℕ, _*_, _≤_, _<_}
 use lib.ListN.{length, take, drop}
 use Rattle.order.specs.Rows.{Some}
-use Rattle.reach.specs.Rows.{Low, Link}
-use Rattle.chains.specs.Far.{Target}
+use Rattle.reach.specs.Inner.Rows.{Low, Link}
+use Rattle.chains.specs.Inner.Far.{Target}
 
 -- l lists, two numbers a pair, the pairs of a chain from x to a target: hops by M, pairs by W
 pub data Chain (M W : ℕ → ℕ → Type 0) (T : ℕ → Type 0) : ℕ → List ℕ → Type 0 where

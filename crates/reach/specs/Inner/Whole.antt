@@ -4,7 +4,7 @@ use mathlib.Core.Logic.{_⊎_}
 use mathlib.Core.List.{List}
 use Prim.Native.Nat.{ℕ, _<_}
 use Rattle.order.specs.Rows.{All, Row}
-use Rattle.reach.specs.Rows.{at, Has, Link}
+use Rattle.reach.specs.Inner.Rows.{at, Has, Link}
 
 -- one link or more from a to b, with only nodes of m in between
 abbrev pub Through : ℕ → List ℕ → List ℕ → ℕ → ℕ → Type 0

@@ -7,7 +7,7 @@ use Prim.Native.Nat.{ℕ, _<_}
 use Rattle.listing.specs.Node.{Listing, node}
 use Rattle.order.specs.Rows.{All}
 use Rattle.order.specs.Walks.{Next, Succ, Walk}
-use Rattle.reach.specs.Rows.{Has}
+use Rattle.reach.specs.Inner.Rows.{Has}
 
 -- b is put into row a if it is a node: w before, v after
 pub record Linked (w v : List ℕ) (n a b : ℕ) : Type 0 where

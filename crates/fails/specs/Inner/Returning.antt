@@ -3,7 +3,7 @@ use mathlib.Core.Path.{_≡_}
 use mathlib.Core.Logic.{_≢_, _⊎_}
 use mathlib.Core.List.{List}
 use Prim.Native.Nat.{ℕ, _<_}
-use Rattle.reach.specs.Rows.{at, Has}
+use Rattle.reach.specs.Inner.Rows.{at, Has}
 
 -- the one row s is row a of m
 pub record Copied (m : List ℕ) (a : ℕ) (s : List ℕ) : Type 0 where

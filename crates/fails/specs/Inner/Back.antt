@@ -5,7 +5,7 @@ use Prim.Native.Nat.{ℕ, _<_}
 use Rattle.listing.specs.Node.{Listing}
 use Rattle.order.specs.Rows.{All, Row}
 use Rattle.order.specs.Chains.{MayMeet, Ends, IsPair, Joined}
-use Rattle.reach.specs.Rows.{Has, Meet}
+use Rattle.reach.specs.Inner.Rows.{Has, Meet}
 
 -- some pair that starts at c has an end that meets a
 abbrev pub Turns : Listing → ℕ → ℕ → Type 0

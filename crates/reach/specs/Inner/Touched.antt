@@ -3,7 +3,7 @@ use mathlib.Core.Path.{_≡_}
 use mathlib.Core.Logic.{_⊎_}
 use mathlib.Core.List.{List}
 use Prim.Native.Nat.{ℕ, _≤_, _<_, min, max}
-use Rattle.reach.specs.Rows.{bit, at, Has}
+use Rattle.reach.specs.Inner.Rows.{bit, at, Has}
 
 -- b is put into row a
 pub record Added (w v : List ℕ) (a b : ℕ) : Type 0 where

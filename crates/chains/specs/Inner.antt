@@ -1,0 +1,4 @@
+pub mod Far
+pub mod Best
+pub mod Levels
+pub mod Descent

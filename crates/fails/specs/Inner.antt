@@ -1,0 +1,5 @@
+pub mod Back
+pub mod Failing
+pub mod Picked
+pub mod Growing
+pub mod Returning

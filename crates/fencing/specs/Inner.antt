@@ -1,0 +1,2 @@
+pub mod MapFits
+pub mod Putting

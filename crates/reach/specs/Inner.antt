@@ -1,0 +1,4 @@
+pub mod Rows
+pub mod Touched
+pub mod Whole
+pub mod Links
