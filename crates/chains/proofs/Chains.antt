@@ -7,9 +7,9 @@ use native.Mathlib.Omega.{arith}
 use native.Mathlib.Decide.{decLt, ℕ-discrete}
 use lib.ListN.{length, getD, take, drop, take-append-drop}
 use Rattle.order.specs.Rows.{Some}
-use Rattle.reach.specs.Inner.Rows.{Holds, Link}
+use Rattle.rows.specs.Inner.Rows.{Holds, Link}
 use Rattle.reach.specs.Inner.Whole.{Then}
-use Rattle.reach.proofs.Holds.{of-link, link-of}
+use Rattle.rows.proofs.Holds.{of-link, link-of}
 use Rattle.chains.specs.Inner.Far.{Path, here, step, Target, Far}
 use Rattle.chains.specs.Inner.Best.{Chain, end, go, Lex, nil, less, same, Best, Asked, Shown}
 use Rattle.chains.specs.Inner.Levels.{Hits}

@@ -8,8 +8,8 @@ use native.Mathlib.Decide.{decLt}
 use native.Mathlib.Numerals.{add-one}
 use lib.ListN.{length, getD, set, take, drop, length-set}
 use lib.Seq.{take-suc-set, append-snoc, drop-set-lt, drop-drop}
-use Rattle.reach.specs.Inner.Rows.{Has}
-use Rattle.reach.specs.Inner.Touched.{Next}
+use Rattle.rows.specs.Inner.Rows.{Has}
+use Rattle.rows.specs.Inner.Touched.{Next}
 use Rattle.chains.specs.Inner.Levels.{AtLevel}
 use Rattle.chains.specs.Inner.Descent.{Nearest, Nearer, FirstMid, FirstEnd, Mid, End, Steep, stop, down, Leads, Downhill, Wrote, Descent}
 use Rattle.chains.proofs.Levels.{meet-hits, hits-meet}

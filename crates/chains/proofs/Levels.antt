@@ -8,8 +8,8 @@ use native.Mathlib.Decide.{decLt, decLe, ℕ-discrete}
 use native.Mathlib.Numerals.{add-one}
 use lib.ListN.{length, getD, set}
 use lib.Seq.{getD-set-same, getD-set-other}
-use Rattle.reach.specs.Inner.Rows.{Has, Link, Meet, Blank}
-use Rattle.reach.specs.Inner.Touched.{Added}
+use Rattle.rows.specs.Inner.Rows.{Has, Link, Meet, Blank}
+use Rattle.rows.specs.Inner.Touched.{Added}
 use Rattle.chains.specs.Inner.Far.{Path, here, step, Target, Far}
 use Rattle.chains.specs.Inner.Levels.{unset, Starts, Marked, AtLevel, Fate, Visited, Swept, Hits, Went}
 use Rattle.chains.proofs.Unset.{unset-le, unset-lt, unset-ge, unset-set}

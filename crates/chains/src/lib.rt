@@ -2,23 +2,23 @@
 ghost use mathlib.Core.Path.{_≡_};
 ghost use Prim.Native.Nat.{ℕ, _+_, _*_, _<_, _≤_};
 ghost use lib.ListN.{length, getD};
-ghost use Rattle.reach.specs.Inner.Rows.{Tells, Has, Link, Meet};
+ghost use Rattle.rows.specs.Inner.Rows.{Tells, Has, Link, Meet};
 ghost use Rattle.chains.specs.Inner.Far.{Far, Target};
 ghost use Rattle.chains.specs.Inner.Best.{Asked, Shown};
 ghost use Rattle.chains.specs.Inner.Levels.{Starts, Marked, AtLevel, Visited, Swept, Went};
 ghost use Rattle.chains.specs.Inner.Descent.{Nearest, Nearer, FirstMid, FirstEnd, Downhill, Wrote, Descent};
 use listing::Listing;
-use reach::WORDS;
+use rows::WORDS;
 
 // The nodes at distance r, into the one row of s.
 fn level(n: usize, d: &[u8; Listing::NODES], r: u8, s: &mut [u64; 2])
     requires { ⌜ n ≤ 128 ⌝ }
     ensures { λ _. ⌜ AtLevel (now (d .entry)) r (now (s .exit)) n ⌝ }
 {
-    reach::clear(s);
+    rows::clear(s);
     for y in 0..n {
         if d[y] == r {
-            reach::put(s, 0, y);
+            rows::put(s, 0, y);
         }
     }
 }
@@ -29,7 +29,7 @@ fn visit(w: &[u64], s: &[u64], d: &mut [u8], x: usize, r: u8) -> usize
     ensures { λ c. ⌜ Visited (now (w .entry)) (now (s .entry)) (now (d .entry)) (now (d .exit)) x r c ⌝ }
 {
     if d[x] == 255 {
-        if reach::meet(w, x, s, 0) {
+        if rows::meet(w, x, s, 0) {
             d[x] = r + 1;
             return 1;
         }
@@ -65,7 +65,7 @@ fn start(n: usize, t: &[u64], x: usize) -> u8
     ensures { λ v. ⌜ Starts n (now (t .entry)) x v ⌝ }
 {
     if x < n {
-        if reach::has(t, 0, x) {
+        if rows::has(t, 0, x) {
             return 0;
         }
     }
@@ -99,7 +99,7 @@ fn nearer(v: &[u64], d: &[u8], x: usize, y: usize, r: u8) -> u8
     requires { ⌜ (2 * x + 1 < length (now v)) × (y < 128) × (y < length (now d)) ⌝ }
     ensures { λ q. ⌜ Nearer (now (v .entry)) (now (d .entry)) x y r q ⌝ }
 {
-    if reach::has(v, x, y) {
+    if rows::has(v, x, y) {
         let e = d[y];
         if e < r {
             return e;
@@ -125,8 +125,8 @@ fn is_mid(m: &[u64], w: &[u64], s: &[u64], x: usize, c: usize) -> bool
     requires { ⌜ (2 * x + 1 < length (now m)) × (2 * c + 1 < length (now w)) × (1 < length (now s)) × (c < 128) ⌝ }
     ensures { λ b. ⌜ Tells b (Has (now (m .entry)) x c × Meet (now (w .entry)) c (now (s .entry)) 0) ⌝ }
 {
-    if reach::has(m, x, c) {
-        return reach::meet(w, c, s, 0);
+    if rows::has(m, x, c) {
+        return rows::meet(w, c, s, 0);
     }
     false
 }
@@ -136,12 +136,12 @@ fn first_mid(n: usize, m: &[u64; WORDS], w: &[u64; WORDS], s: &[u64; 2], x: usiz
     requires { ⌜ (n ≤ 128) × (x < n) × ((c : ℕ) × (c < n) × Has (now m) x c × Meet (now w) c (now s) 0) ⌝ }
     ensures { λ c. ⌜ FirstMid n (now (m .entry)) (now (w .entry)) (now (s .entry)) x c ⌝ }
 {
-    let mut c = reach::next(m, x, 0, n);
+    let mut c = rows::next(m, x, 0, n);
     while c < n {
         if is_mid(m, w, s, x, c) {
             return c;
         }
-        c = reach::next(m, x, c + 1, n);
+        c = rows::next(m, x, c + 1, n);
     }
     0
 }
@@ -151,8 +151,8 @@ fn is_end(w: &[u64], s: &[u64], c: usize, y: usize) -> bool
     requires { ⌜ (2 * c + 1 < length (now w)) × (1 < length (now s)) × (y < 128) ⌝ }
     ensures { λ b. ⌜ Tells b (Has (now (w .entry)) c y × Has (now (s .entry)) 0 y) ⌝ }
 {
-    if reach::has(w, c, y) {
-        return reach::has(s, 0, y);
+    if rows::has(w, c, y) {
+        return rows::has(s, 0, y);
     }
     false
 }
@@ -162,12 +162,12 @@ fn first_end(n: usize, w: &[u64; WORDS], s: &[u64; 2], c: usize) -> usize
     requires { ⌜ (n ≤ 128) × (c < n) × ((y : ℕ) × (y < n) × Has (now w) c y × Has (now s) 0 y) ⌝ }
     ensures { λ y. ⌜ FirstEnd n (now (w .entry)) (now (s .entry)) c y ⌝ }
 {
-    let mut y = reach::next(w, c, 0, n);
+    let mut y = rows::next(w, c, 0, n);
     while y < n {
         if is_end(w, s, c, y) {
             return y;
         }
-        y = reach::next(w, c, y + 1, n);
+        y = rows::next(w, c, y + 1, n);
     }
     0
 }

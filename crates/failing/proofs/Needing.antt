@@ -18,11 +18,11 @@ use Rattle.order.specs.Verdict.{Fails}
 use Rattle.order.proofs.Bools.{one→}
 use Rattle.order.proofs.Laws.{access-in}
 use Rattle.order.proofs.Entries.{number-leave, number-need, number-unless, number-below, entry-of}
-use Rattle.reach.specs.Inner.Rows.{Has, Tells, Holds}
-use Rattle.reach.specs.Inner.Touched.{Next}
-use Rattle.fails.specs.Inner.Failing.{Suspect, Exchanged}
+use Rattle.rows.specs.Inner.Rows.{Has, Tells, Holds}
+use Rattle.rows.specs.Inner.Touched.{Next}
+use Rattle.suspects.specs.Inner.Failing.{Suspect, Exchanged}
 use Rattle.failing.specs.Inner.First.{Prepared}
-use Rattle.fails.proofs.Tests.{no-fails, told-yes}
+use Rattle.suspects.proofs.Tests.{no-fails, told-yes}
 
 -- an access's kind is one of the table's
 pub kind-below : (k : ℕ) → T (isAccess k) → k < 5

@@ -2,9 +2,9 @@
 ghost use Prim.Native.Nat.{_<_};
 ghost use Rattle.listing.specs.Bytes.{countN, nodesOf};
 ghost use Rattle.order.specs.Verdict.{Fails};
-ghost use Rattle.reach.specs.Inner.Rows.{Tells};
+ghost use Rattle.rows.specs.Inner.Rows.{Tells};
 ghost use Rattle.failing.specs.Inner.First.{Prepared, SecondFailing, FirstFailing};
-use reach::WORDS;
+use rows::WORDS;
 
 // Whether the pair (a, b) fails.
 pub fn fails_at(
@@ -18,7 +18,7 @@ pub fn fails_at(
     requires { ⌜ Prepared question (now bytes) (now c) (now i) × (a < countN (now bytes)) × (b < countN (now bytes)) ⌝ }
     ensures { λ r. ⌜ Tells r (Fails question (nodesOf (now (bytes .entry))) a b) ⌝ }
 {
-    if !reach::has(c, a, b) {
+    if !rows::has(c, a, b) {
         return false;
     }
     let x = listing::location_at(bytes, a);
@@ -35,7 +35,7 @@ pub fn fails_at(
     if entry == 1 {
         return true;
     }
-    reach::has(i, a, b)
+    rows::has(i, a, b)
 }
 
 // The least second node of a failing pair from a, or the number of nodes where none fails.
@@ -50,12 +50,12 @@ pub fn second_failing(
     ensures { λ r. ⌜ SecondFailing question (nodesOf (now (bytes .entry))) (countN (now (bytes .entry))) a r ⌝ }
 {
     let n = listing::node_count(bytes);
-    let mut b = reach::next(c, a, 0, n);
+    let mut b = rows::next(c, a, 0, n);
     while b < n {
         if fails_at(question, bytes, c, i, a, b) {
             return b;
         }
-        b = reach::next(c, a, b + 1, n);
+        b = rows::next(c, a, b + 1, n);
     }
     n
 }

@@ -14,7 +14,7 @@ ghost use Rattle.proposal.specs.Inner.Marking.{MarkOf, Marked, Drawn};
 use listing::Listing;
 use listing::ReadAnswer;
 use patch::ProposeAnswer;
-use reach::WORDS;
+use rows::WORDS;
 
 // 1 where a is the first node of a failing pair, and 0 where it is none.
 fn mark_of(question: u8, bytes: &[u8], c: &[u64; WORDS], i: &[u64; WORDS], a: usize) -> u8
@@ -86,8 +86,8 @@ fn propose_for(question: u8, bytes: &[u8], map: &mut [u8]) -> ProposeAnswer
     let mut c = [0u64; WORDS];
     let mut i = [0u64; WORDS];
     let mut marks = [0u8; Listing::NODES];
-    fails::suspects(question, bytes, &mut p, &mut m, &mut c);
-    fails::exchanged_rows(bytes, &p, &mut i);
+    suspects::suspects(question, bytes, &mut p, &mut m, &mut c);
+    suspects::exchanged_rows(bytes, &p, &mut i);
     draw(question, bytes, &c, &i, &mut marks);
     let n = listing::node_count(bytes);
     offer(bytes, &marks[..n], map)

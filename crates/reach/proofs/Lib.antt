@@ -1,11 +1,6 @@
-pub mod Bit
-pub mod Tells
-pub mod Rows
-pub mod Holds
 pub mod Rounds
 pub mod Ways
 pub mod Loading
 pub mod Sweeps
 pub mod Steps
 pub mod Thinned
-pub mod Relations

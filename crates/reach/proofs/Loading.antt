@@ -9,10 +9,10 @@ use lib.ListN.{length}
 use Rattle.listing.specs.Node.{Listing, node}
 use Rattle.order.specs.Rows.{Row}
 use Rattle.order.specs.Walks.{Next, Succ}
-use Rattle.reach.specs.Inner.Rows.{at, Has, Holds, Link, Blank}
+use Rattle.rows.specs.Inner.Rows.{at, Has, Holds, Link, Blank}
 use Rattle.reach.specs.Inner.Whole.{Through}
 use Rattle.reach.specs.Inner.Links.{Linked, Walked}
-use Rattle.reach.proofs.Holds.{holds-map, link-of, of-link}
+use Rattle.rows.proofs.Holds.{holds-map, link-of, of-link}
 
 -- the rows are the links of the nodes below k
 pub record Loaded (L : Listing) (w : List ℕ) (n k : ℕ) : Type 0 where

@@ -5,10 +5,10 @@ use mathlib.Core.List.{List}
 use Prim.Native.Nat.{ℕ, _+_, _<_}
 use native.Mathlib.Omega.{arith}
 use native.Mathlib.Decide.{decLt, ℕ-discrete}
-use Rattle.reach.specs.Inner.Rows.{at, Has}
-use Rattle.reach.specs.Inner.Touched.{Poured}
+use Rattle.rows.specs.Inner.Rows.{at, Has}
+use Rattle.rows.specs.Inner.Touched.{Poured}
 use Rattle.reach.specs.Inner.Whole.{Passed}
-use Rattle.reach.proofs.Rows.{poured-gives, poured-keeps, poured-brings}
+use Rattle.rows.proofs.Rows.{poured-gives, poured-keeps, poured-brings}
 
 pub passed-none : (w : List ℕ) (k : ℕ) → Passed w w 0 k
 passed-none w k = record { gives = λ x y hy h. inl h; keeps = λ x y hy h. h; done = λ x y hx hy p q. absurd (omega arith) }

@@ -5,10 +5,10 @@ use mathlib.Core.List.{List}
 use Prim.Native.Nat.{ℕ, _+_, _≤_, _<_}
 use native.Mathlib.Omega.{arith}
 use native.Mathlib.Decide.{decLt, ℕ-discrete}
-use Rattle.reach.specs.Inner.Rows.{at, Has, Holds, Low, Blank}
-use Rattle.reach.specs.Inner.Touched.{Added, Poured, Alike}
+use Rattle.rows.specs.Inner.Rows.{at, Has, Holds, Low, Blank}
+use Rattle.rows.specs.Inner.Touched.{Added, Poured, Alike}
 use Rattle.reach.specs.Inner.Whole.{Then, Pouring, Turned, Turning}
-use Rattle.reach.proofs.Rows.{poured-gives, poured-keeps, poured-brings}
+use Rattle.rows.proofs.Rows.{poured-gives, poured-keeps, poured-brings}
 
 -- ---- two steps
 

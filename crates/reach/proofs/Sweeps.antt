@@ -11,11 +11,13 @@ use Rattle.listing.specs.Node.{Listing, node}
 use Rattle.order.specs.Rows.{All, Row}
 use Rattle.order.specs.Walks.{Next, Succ, Walk}
 use Rattle.order.proofs.Lists.{row-join}
-use Rattle.reach.specs.Inner.Rows.{Has, Holds, Link}
-use Rattle.reach.specs.Inner.Touched.{Poured}
+use Rattle.rows.specs.Inner.Rows.{Has, Holds, Link}
+use Rattle.rows.specs.Inner.Touched.{Poured}
 use Rattle.reach.specs.Inner.Whole.{Through}
-use Rattle.reach.specs.Inner.Links.{Walked, Vouches, Begun, Pulled, Covers, Calm, Settled}
-use Rattle.reach.proofs.Rows.{poured-gives, poured-keeps}
+use Rattle.reach.specs.Inner.Links.{Walked, Begun, Pulled, Calm, Settled}
+use Rattle.rows.specs.Inner.Rows.{Vouches}
+use Rattle.rows.specs.Inner.Touched.{Covers}
+use Rattle.rows.proofs.Rows.{poured-gives, poured-keeps}
 use Rattle.reach.proofs.Loading.{row-map}
 
 all-join : (P : ℕ → Type 0) (xs : List ℕ) (c : ℕ) (ys : List ℕ) → All P xs → P c → All P ys → All P (xs ++ (c ∷ ys))

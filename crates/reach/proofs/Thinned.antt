@@ -5,11 +5,12 @@ use mathlib.Core.List.{List}
 use Prim.Native.Nat.{ℕ, _+_, _≤_, _<_}
 use native.Mathlib.Omega.{arith}
 use native.Mathlib.Decide.{decLt, ℕ-discrete}
-use Rattle.reach.specs.Inner.Rows.{at, Has, Holds, Low, Blank}
-use Rattle.reach.specs.Inner.Touched.{Removed, Sifted, Emptied}
-use Rattle.reach.specs.Inner.Whole.{From, To, Among, United}
-use Rattle.reach.proofs.Rows.{at-le}
-use Rattle.reach.proofs.Holds.{holds-map}
+use Rattle.rows.specs.Inner.Rows.{at, Has, Holds, Low, Blank}
+use Rattle.rows.specs.Inner.Touched.{Removed, Sifted, Emptied}
+use Rattle.reach.specs.Inner.Whole.{From, To, Among}
+use Rattle.rows.specs.Inner.Touched.{United}
+use Rattle.rows.proofs.Rows.{at-le}
+use Rattle.rows.proofs.Holds.{holds-map}
 
 -- the rows below k are thinned
 pub record Thinned (P : ℕ → ℕ → Type 0) (w v : List ℕ) (k : ℕ) : Type 0 where

@@ -6,7 +6,7 @@ use Prim.Native.Nat.{ℕ, _+_, _≤_, _<_}
 use native.Mathlib.Omega.{arith}
 use native.Mathlib.Decide.{decLt}
 use Rattle.order.specs.Rows.{All, Row}
-use Rattle.reach.specs.Inner.Rows.{at, Has, Holds, Low, Link}
+use Rattle.rows.specs.Inner.Rows.{at, Has, Holds, Low, Link}
 use Rattle.reach.specs.Inner.Whole.{Through, Passed}
 
 -- ---- ways, over any links and any mask

@@ -1,4 +1,2 @@
-pub mod Rows
-pub mod Touched
 pub mod Whole
 pub mod Links

@@ -12,8 +12,8 @@ use Rattle.listing.specs.Answer.{done, openAt}
 use Rattle.listing.proofs.Reading.{admitted-whole}
 use Rattle.order.specs.Chains.{Ends}
 use Rattle.order.specs.Verdict.{Fails, Robust, Before, First, robust, opened}
-use Rattle.reach.specs.Inner.Rows.{Holds}
-use Rattle.fails.specs.Inner.Failing.{Ready, Exchanged}
+use Rattle.rows.specs.Inner.Rows.{Holds}
+use Rattle.suspects.specs.Inner.Failing.{Ready, Exchanged}
 use Rattle.failing.specs.Inner.First.{Prepared, SecondFailing, FirstFailing}
 use Rattle.verdict.specs.Judging.{Told}
 use Rattle.verdict.specs.Inner.Showing.{Chained, Showed}

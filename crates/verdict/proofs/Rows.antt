@@ -8,9 +8,9 @@ use Rattle.listing.specs.Node.{Listing}
 use Rattle.order.specs.Walks.{Access, Pair}
 use Rattle.order.specs.Chains.{Ends}
 use Rattle.order.proofs.Laws.{access-in, meets-sym}
-use Rattle.reach.specs.Inner.Rows.{Has, Holds, Members, Link}
-use Rattle.reach.specs.Inner.Touched.{Removed}
-use Rattle.fails.specs.Inner.Failing.{Meeting}
+use Rattle.rows.specs.Inner.Rows.{Has, Holds, Members, Link}
+use Rattle.rows.specs.Inner.Touched.{Removed}
+use Rattle.suspects.specs.Inner.Failing.{Meeting}
 use Rattle.chains.specs.Inner.Far.{Target}
 use Rattle.verdict.proofs.Shortest.{Kept}
 

@@ -17,9 +17,9 @@ use Rattle.order.specs.Chains.{Ends}
 use Rattle.order.specs.Verdict.{Shown}
 use Rattle.order.proofs.Laws.{access-in}
 use Rattle.order.proofs.Least.{shown-bound}
-use Rattle.reach.specs.Inner.Rows.{at, Has, Holds, Members, Low, Link}
-use Rattle.reach.specs.Inner.Touched.{Removed}
-use Rattle.fails.specs.Inner.Returning.{Copied}
+use Rattle.rows.specs.Inner.Rows.{at, Has, Holds, Members, Low, Link}
+use Rattle.rows.specs.Inner.Touched.{Removed}
+use Rattle.rows.specs.Inner.Touched.{Copied}
 use Rattle.chains.specs.Inner.Far.{Target}
 use Rattle.chains.specs.Inner.Best as hops
 use Rattle.verdict.specs.Judging.{chainBytes}

@@ -8,7 +8,7 @@ ghost use Rattle.verdict.specs.Judging.{CHAIN, wrongQuestion, judgeSays,
 ghost use Rattle.verdict.specs.Inner.Showing.{Chained, Followed, Showed};
 use listing::Listing;
 use listing::ReadAnswer;
-use reach::WORDS;
+use rows::WORDS;
 
 // What judging answers.
 pub enum JudgeAnswer {
@@ -54,8 +54,8 @@ fn follow(
 {
     let n = listing::node_count(bytes);
     let mut ends = [0u64; 2];
-    fails::copy_row(m, a, &mut ends);
-    reach::take_out(p, a, b);
+    rows::copy_row(m, a, &mut ends);
+    rows::take_out(p, a, b);
     let mut v = [0u64; WORDS];
     let mut d = [0u8; Listing::NODES];
     chains::chain(n, m, p, &ends, b, &mut v, &mut d, out)
@@ -87,8 +87,8 @@ pub fn decide(question: u8, bytes: &[u8], chain: &mut [u8]) -> JudgeAnswer
     let mut m = [0u64; WORDS];
     let mut c = [0u64; WORDS];
     let mut i = [0u64; WORDS];
-    fails::suspects(question, bytes, &mut p, &mut m, &mut c);
-    fails::exchanged_rows(bytes, &p, &mut i);
+    suspects::suspects(question, bytes, &mut p, &mut m, &mut c);
+    suspects::exchanged_rows(bytes, &p, &mut i);
     let n = listing::node_count(bytes);
     let first = failing::first_failing(question, bytes, &c, &i);
     if first == n {

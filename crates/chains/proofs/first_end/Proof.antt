@@ -3,7 +3,7 @@ use borrow.Author.Needs.{needs}
 use native.Mathlib.Omega.{arith}
 use Prim.Native.Nat.{ℕ, _≤_, _<_, _-_}
 use borrow.Author.Count.{below-none, below-more}
-use Rattle.reach.specs.Inner.Rows.{Has}
+use Rattle.rows.specs.Inner.Rows.{Has}
 use Rattle.chains.proofs.Going.{passed-over}
 use Rattle.chains.proofs.first_end.Statement.{statement}
 use Rattle.chains.proofs.first_end.Tie as tie

@@ -1,7 +1,7 @@
 -- `chains::is_end` meets its contract.
 use borrow.Author.Needs.{needs}
-use Rattle.reach.specs.Inner.Rows.{Has}
-use Rattle.reach.proofs.Tells.{tells-and}
+use Rattle.rows.specs.Inner.Rows.{Has}
+use Rattle.rows.proofs.Tells.{tells-and}
 use Rattle.chains.proofs.is_end.Statement.{statement}
 use Rattle.chains.proofs.is_end.Tie as tie
 

@@ -1,7 +1,7 @@
 -- `chains::is_mid` meets its contract.
 use borrow.Author.Needs.{needs}
-use Rattle.reach.specs.Inner.Rows.{Has, Meet}
-use Rattle.reach.proofs.Tells.{tells-and}
+use Rattle.rows.specs.Inner.Rows.{Has, Meet}
+use Rattle.rows.proofs.Tells.{tells-and}
 use Rattle.chains.proofs.is_mid.Statement.{statement}
 use Rattle.chains.proofs.is_mid.Tie as tie
 

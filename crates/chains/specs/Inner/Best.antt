@@ -4,7 +4,7 @@ use mathlib.Core.List.{List, [], _∷_}
 use Prim.Native.Nat.{ℕ, _*_, _≤_, _<_}
 use lib.ListN.{length, take, drop}
 use Rattle.order.specs.Rows.{Some}
-use Rattle.reach.specs.Inner.Rows.{Low, Link}
+use Rattle.rows.specs.Inner.Rows.{Low, Link}
 use Rattle.chains.specs.Inner.Far.{Target}
 
 -- l lists, two numbers a pair, the pairs of a chain from x to a target: hops by M, pairs by W

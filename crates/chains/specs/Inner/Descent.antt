@@ -4,7 +4,7 @@ use mathlib.Core.Logic.{_⊎_}
 use mathlib.Core.List.{List, [], _∷_}
 use Prim.Native.Nat.{ℕ, suc, _+_, _*_, _≤_, _<_}
 use lib.ListN.{length, getD, take, drop, set}
-use Rattle.reach.specs.Inner.Rows.{Has, Meet}
+use Rattle.rows.specs.Inner.Rows.{Has, Meet}
 use Rattle.chains.specs.Inner.Levels.{Hits}
 
 -- r is the least distance among the nodes below n of row x, 255 where none has one

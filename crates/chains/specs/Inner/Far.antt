@@ -4,7 +4,7 @@ use mathlib.Core.Logic.{_⊎_}
 use mathlib.Core.List.{List}
 use Prim.Native.Nat.{ℕ, suc, _≤_, _<_}
 use lib.ListN.{getD}
-use Rattle.reach.specs.Inner.Rows.{Has}
+use Rattle.rows.specs.Inner.Rows.{Has}
 
 -- a path of k steps from x to a target
 pub data Path (X : ℕ → ℕ → Type 0) (T : ℕ → Type 0) : ℕ → ℕ → Type 0 where

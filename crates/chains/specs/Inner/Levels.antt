@@ -6,7 +6,7 @@ use mathlib.Core.List.{List, [], _∷_}
 use Prim.Native.Nat.{ℕ, _+_, _≤_, _<_}
 use lib.ListN.{getD}
 use lib.Dec.{eqb}
-use Rattle.reach.specs.Inner.Rows.{Has, Link, Meet}
+use Rattle.rows.specs.Inner.Rows.{Has, Link, Meet}
 use Rattle.chains.specs.Inner.Far.{Target}
 
 -- how many have no distance

@@ -2,7 +2,7 @@
 use borrow.Author.Needs.{needs}
 use mathlib.Core.Path.{sym, _∙_}
 use Rattle.listing.specs.Bytes.{nodesOf}
-use Rattle.fails.proofs.Tests.{yes-holds, told-no}
+use Rattle.suspects.proofs.Tests.{yes-holds, told-no}
 use Rattle.failing.proofs.Needing.{kind-below, fails-suspect, suspected, suspect-pair, apart-read, number-read, left-out, needed, unless-inside}
 use Rattle.failing.proofs.fails_at.Statement.{statement}
 use Rattle.failing.proofs.fails_at.Tie as tie

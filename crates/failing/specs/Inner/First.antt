@@ -6,8 +6,8 @@ use Rattle.listing.specs.Node.{Listing}
 use Rattle.listing.specs.Bytes.{countN, nodesOf}
 use Rattle.listing.specs.Inner.Whole.{Whole}
 use Rattle.order.specs.Verdict.{Fails, Robust}
-use Rattle.reach.specs.Inner.Rows.{Holds}
-use Rattle.fails.specs.Inner.Failing.{Suspect, Exchanged}
+use Rattle.rows.specs.Inner.Rows.{Holds}
+use Rattle.suspects.specs.Inner.Failing.{Suspect, Exchanged}
 
 -- a question from 1 to 4, a listing's bytes, the rows of its suspects, and the rows of an RMW inside
 pub record Prepared (q : ℕ) (bytes c i : List ℕ) : Type 0 where

@@ -1,5 +1,5 @@
 -- `reach::calm` meets its contract.
-use Rattle.reach.proofs.Tells.{tells-no}
+use Rattle.rows.proofs.Tells.{tells-no}
 use Rattle.reach.proofs.Sweeps.{calm-of}
 use borrow.Author.Needs.{needs}
 use Rattle.reach.proofs.calm.Statement.{statement}

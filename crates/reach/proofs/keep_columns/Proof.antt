@@ -3,7 +3,7 @@ use borrow.Author.Needs.{needs}
 use native.Mathlib.Omega.{arith}
 use mathlib.Core.Path.{_≡_}
 use Prim.Native.Nat.{_≤_, _-_}
-use Rattle.reach.specs.Inner.Rows.{Has}
+use Rattle.rows.specs.Inner.Rows.{Has}
 use Rattle.reach.proofs.Thinned.{Thinned, thinned-none, thinned-more, thinned-all, sifts}
 use Rattle.reach.proofs.keep_columns.Statement.{statement}
 use Rattle.reach.proofs.keep_columns.Tie as tie

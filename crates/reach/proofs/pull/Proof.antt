@@ -1,5 +1,5 @@
 -- `reach::pull` meets its contract.
-use Rattle.reach.proofs.Tells.{tells-yes}
+use Rattle.rows.proofs.Tells.{tells-yes}
 use Rattle.reach.proofs.Sweeps.{pulled-none, pulled-or}
 use borrow.Author.Needs.{needs}
 use Rattle.reach.proofs.pull.Statement.{statement}

@@ -1,6 +1,6 @@
 -- `reach::restrict` meets its contract.
 use borrow.Author.Needs.{needs}
-use Rattle.reach.proofs.Holds.{holds-low}
+use Rattle.rows.proofs.Holds.{holds-low}
 use Rattle.reach.proofs.Thinned.{among}
 use Rattle.reach.proofs.restrict.Statement.{statement}
 use Rattle.reach.proofs.restrict.Tie as tie

@@ -3,7 +3,7 @@ use borrow.Author.Needs.{needs}
 use native.Mathlib.Omega.{arith}
 use mathlib.Core.Path.{_≡_}
 use Prim.Native.Nat.{_+_, _≤_, _<_, _-_}
-use Rattle.reach.specs.Inner.Rows.{Has}
+use Rattle.rows.specs.Inner.Rows.{Has}
 use Rattle.reach.specs.Inner.Whole.{Turning}
 use Rattle.reach.proofs.Steps.{turning-none, turning-jump, turning-put}
 use Rattle.reach.proofs.turn_row.Statement.{statement}

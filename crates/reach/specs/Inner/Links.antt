@@ -7,7 +7,8 @@ use Prim.Native.Nat.{ℕ, _<_}
 use Rattle.listing.specs.Node.{Listing, node}
 use Rattle.order.specs.Rows.{All}
 use Rattle.order.specs.Walks.{Next, Succ, Walk}
-use Rattle.reach.specs.Inner.Rows.{Has}
+use Rattle.rows.specs.Inner.Rows.{Has}
+use Rattle.rows.specs.Inner.Touched.{Covers}
 
 -- b is put into row a if it is a node: w before, v after
 pub record Linked (w v : List ℕ) (n a b : ℕ) : Type 0 where
@@ -19,11 +20,6 @@ pub record Linked (w v : List ℕ) (n a b : ℕ) : Type 0 where
 abbrev pub Walked : Listing → List ℕ → ℕ → ℕ → Type 0
 Walked L m a b = (inside : List ℕ) × Walk L a inside b × All (λ c. Has m 0 c) inside
 
--- what a yes says of a statement; a no says nothing
-abbrev pub Vouches : Bool → Type 0 → Type 0
-Vouches true A = A
-Vouches false A = Unit {0}
-
 -- the rows have every link, and nothing but walks with only nodes of m inside
 pub record Begun (L : Listing) (m w : List ℕ) (n : ℕ) : Type 0 where
   pub sound : (a b : ℕ) → b < 128 → Has w a b → (a < n) × (b < n) × Walked L m a b
@@ -33,10 +29,6 @@ pub record Begun (L : Listing) (m w : List ℕ) (n : ℕ) : Type 0 where
 pub record Pulled (m w v : List ℕ) (n a b : ℕ) : Type 0 where
   pub gives : (x y : ℕ) → y < 128 → Has v x y → Has w x y ⊎ ((x ≡ a) × (b < n) × Has m 0 b × Has w b y)
   pub keeps : (x y : ℕ) → y < 128 → Has w x y → Has v x y
-
--- row a has all that row k has
-abbrev pub Covers : List ℕ → ℕ → ℕ → Type 0
-Covers w a k = (y : ℕ) → y < 128 → Has w k y → Has w a y
 
 -- row a has all that row b has, if b is a node of m
 abbrev pub Calm : List ℕ → List ℕ → ℕ → ℕ → ℕ → Type 0

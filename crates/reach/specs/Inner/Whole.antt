@@ -4,7 +4,7 @@ use mathlib.Core.Logic.{_⊎_}
 use mathlib.Core.List.{List}
 use Prim.Native.Nat.{ℕ, _<_}
 use Rattle.order.specs.Rows.{All, Row}
-use Rattle.reach.specs.Inner.Rows.{at, Has, Link}
+use Rattle.rows.specs.Inner.Rows.{at, Has, Link}
 
 -- one link or more from a to b, with only nodes of m in between
 abbrev pub Through : ℕ → List ℕ → List ℕ → ℕ → ℕ → Type 0
@@ -33,17 +33,6 @@ Among s w a b = Has w a b × Has s 0 a × Has s 0 b
 -- what leads elsewhere
 abbrev pub Away : List ℕ → ℕ → ℕ → Type 0
 Away w a b = Has w a b × (a ≡ b → ⊥)
-
--- what both have
-pub record Common (u w v : List ℕ) : Type 0 where
-  pub gives : (a b : ℕ) → b < 128 → Has v a b → Has w a b × Has u a b
-  pub keeps : (a b : ℕ) → b < 128 → Has w a b → Has u a b → Has v a b
-
--- what either has
-pub record United (u w v : List ℕ) : Type 0 where
-  pub gives : (a b : ℕ) → b < 128 → Has v a b → Has w a b ⊎ Has u a b
-  pub keeps : (a b : ℕ) → b < 128 → Has w a b → Has v a b
-  pub brings : (a b : ℕ) → b < 128 → Has u a b → Has v a b
 
 -- k may now lie inside: one round of Warshall's, over the rows below n
 pub record Passed (w v : List ℕ) (n k : ℕ) : Type 0 where

@@ -10,8 +10,8 @@ use Rattle.listing.specs.Answer.{filled}
 use Rattle.order.specs.Walks.{Pair}
 use Rattle.order.specs.Chains.{Ends}
 use Rattle.order.specs.Verdict.{Shown}
-use Rattle.reach.specs.Inner.Rows.{Holds}
-use Rattle.fails.specs.Inner.Failing.{Meeting, OnChain}
+use Rattle.rows.specs.Inner.Rows.{Holds}
+use Rattle.suspects.specs.Inner.Failing.{Meeting, OnChain}
 use Rattle.verdict.specs.Judging.{chainBytes}
 
 -- the rows p keep the pairs of the listing's bytes, the rows m who meets whom, and (a, b) lies on a chain

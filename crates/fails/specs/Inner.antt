@@ -1,5 +1,0 @@
-pub mod Back
-pub mod Failing
-pub mod Picked
-pub mod Growing
-pub mod Returning

@@ -1,0 +1,5 @@
+pub mod OnChain
+pub mod Relations
+pub mod Chained
+pub mod Tests
+pub mod Returning

@@ -1,0 +1,51 @@
+-- `suspects::picks` meets its contract.
+use mathlib.Core.Path.{ap}
+use mathlib.Core.Bool.{not}
+use borrow.Author.Needs.{needs}
+use Rattle.suspects.proofs.picks.Statement.{statement}
+use Rattle.suspects.proofs.picks.Tie as tie
+
+enum-told : tie.Need-enum-told
+enum-told c = search needs
+
+enum-told-2 : tie.Need-enum-told-2
+enum-told-2 c = search needs
+
+is-access-requires : tie.Need-is-access-requires
+is-access-requires c κs = search needs
+
+enum-told-3 : tie.Need-enum-told-3
+enum-told-3 c = search needs
+
+enum-told-4 : tie.Need-enum-told-4
+enum-told-4 c = search needs
+
+bars-requires : tie.Need-bars-requires
+bars-requires c κs = search needs
+
+returns : tie.Need-returns
+returns c = search needs
+
+returns-2 : tie.Need-returns-2
+returns-2 c = rw (c .before .enum-told2 .given .1) (c .is-access .ensures)
+
+returns-3 : tie.Need-returns-3
+returns-3 c = rw (c .enum-told3 .given .1)
+
+returns-4 : tie.Need-returns-4
+returns-4 c = rw (c .before .enum-told4 .given .1) (ap not (c .bars .ensures))
+
+pub picks-spec : {M : Type 1} → statement M
+picks-spec =
+    tie.close
+    (tie.spec
+    enum-told
+    enum-told-2
+    is-access-requires
+    enum-told-3
+    enum-told-4
+    bars-requires
+    returns
+    returns-2
+    returns-3
+    returns-4)

@@ -1,0 +1,4 @@
+pub mod Back
+pub mod Failing
+pub mod Picked
+pub mod Returning
