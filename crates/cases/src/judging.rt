@@ -1,6 +1,10 @@
 // Judging: what the judge answers to each rehearsed listing, one line a question.
 use crate::full;
+use listing::Listing;
 use verdict::CHAIN_BYTES;
+
+// The least number past those of the questions.
+pub const NO_QUESTION: u64 = order::QUESTIONS as u64 + 1;
 
 // What stands before an answer: the case's name and the question.
 pub fn heading(name: &[u8], question: u64) {
@@ -149,21 +153,21 @@ fn neighbours() {
 
 // As many nodes as a listing may have, and one more.
 fn sizes() {
-    let mut bytes = [0u8; say::LONGEST];
-    full::put_full(&mut bytes, 128);
+    let mut bytes = [0u8; Listing::LONGEST];
+    full::put_full(&mut bytes, full::FULL);
     case(b"128 nodes", &bytes);
-    full::put_full(&mut bytes, 129);
+    full::put_full(&mut bytes, full::FULL + 1);
     case(b"129 nodes", &bytes);
 }
 
 // What the judge itself refuses: questions that are none, and a chain buffer of 257 bytes, also where nothing would be written.
 fn refusals(a: &[u8]) {
     ask(b"A", 0, a);
-    ask(b"A", 5, a);
-    ask(b"A", 18446744073709551615, a);
+    ask(b"A", NO_QUESTION, a);
+    ask(b"A", u64::MAX, a);
     ask_short(b"A with 257 bytes", 1, a);
     ask_short(b"A with 257 bytes", 4, a);
-    ask_short(b"A with 257 bytes", 5, a);
+    ask_short(b"A with 257 bytes", NO_QUESTION, a);
     ask_short(b"no listing with 257 bytes", 1, b"ORD");
 }
 

@@ -1,5 +1,6 @@
 // Patches: judging with a map, proposing, and writing the patched listing.
 use crate::full;
+use crate::judging::NO_QUESTION;
 use crate::judging::heading;
 use listing::Listing;
 use patch::WriteAnswer;
@@ -31,7 +32,7 @@ fn propose(name: &[u8], question: u64, bytes: &[u8]) {
 fn write(name: &[u8], bytes: &[u8], map: &[u8]) {
     say::text(name);
     say::text(b":\n");
-    let mut out = [0u8; say::LONGEST];
+    let mut out = [0u8; Listing::LONGEST];
     match patch::write(bytes, map, &mut out) {
         WriteAnswer::Written { length } => say::shown(&out[..length]),
         WriteAnswer::Refused { number, place } => say::refused(number, place),
@@ -49,7 +50,7 @@ fn case_a(a: &[u8]) {
     propose(b"propose A", 1, a);
     propose(b"propose A", 2, a);
     propose(b"propose A", 3, a);
-    propose(b"propose A", 5, a);
+    propose(b"propose A", NO_QUESTION, a);
 }
 
 // A fence after a node of each sort, and after all of them.
@@ -83,13 +84,13 @@ fn empty(bytes: &[u8]) {
 
 // As many nodes as a listing may have: no place is left.
 fn full() {
-    let mut bytes = [0u8; say::LONGEST];
-    full::put_full(&mut bytes, 128);
+    let mut bytes = [0u8; Listing::LONGEST];
+    full::put_full(&mut bytes, full::FULL);
     let mut map = [0u8; Listing::NODES];
     ask(b"128 nodes without a place", 2, &bytes, &map);
     propose(b"propose 128 nodes", 1, &bytes);
     propose(b"propose 128 nodes", 2, &bytes);
-    map[127] = 1;
+    map[Listing::NODES - 1] = 1;
     ask(b"128 nodes with one place", 2, &bytes, &map);
     write(b"write 128 nodes with one place", &bytes, &map);
 }

@@ -1,4 +1,9 @@
 pub mod Unset
+pub mod Paths
+pub mod Starting
+pub mod Rounds
 pub mod Levels
-pub mod Chains
+pub mod Nearing
 pub mod Going
+pub mod Strides
+pub mod Courses

@@ -1,4 +1,4 @@
 pub mod Far
-pub mod Best
+pub mod Courses
 pub mod Levels
 pub mod Descent

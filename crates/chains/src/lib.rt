@@ -1,19 +1,23 @@
-// Shortest chains of pairs over rows of bits, and the least of them.
+// Shortest courses of hops and pairs over rows of bits, and the least of them: what follows a pair on the chain to show.
 ghost use mathlib.Core.Path.{_≡_};
-ghost use Prim.Native.Nat.{ℕ, _+_, _*_, _<_, _≤_};
-ghost use lib.ListN.{length, getD};
-ghost use Rattle.rows.specs.Inner.Rows.{Tells, Has, Link, Meet};
-ghost use Rattle.chains.specs.Inner.Far.{Far, Target};
-ghost use Rattle.chains.specs.Inner.Best.{Asked, Shown};
-ghost use Rattle.chains.specs.Inner.Levels.{Starts, Marked, AtLevel, Visited, Swept, Went};
-ghost use Rattle.chains.specs.Inner.Descent.{Nearest, Nearer, FirstMid, FirstEnd, Downhill, Wrote, Descent};
+ghost use Prim.Native.Nat.{_+_, _*_, _<_, _≤_};
+ghost use lib.ListN.{length};
+ghost use Rattle.rows.specs.Inner.Rows.{Tells, Members, Link};
+ghost use Rattle.rows.specs.Inner.Least.{Least};
+ghost use Rattle.chains.specs.Inner.Far.{unreached, Far, Goal};
+ghost use Rattle.chains.specs.Inner.Courses.{Sought, ShownCourse};
+ghost use Rattle.chains.specs.Inner.Levels.{Starts, Started, AtDistance, Into, Hits, Swept};
+ghost use Rattle.chains.specs.Inner.Descent.{Nearest, Nearer, Mid, End, Downhill, Wrote, Descent};
 use listing::Listing;
 use rows::WORDS;
+
+// What stands for the distance of a node that has no path.
+const UNREACHED: u8 = 255;
 
 // The nodes at distance r, into the one row of s.
 fn level(n: usize, d: &[u8; Listing::NODES], r: u8, s: &mut [u64; 2])
     requires { ⌜ n ≤ 128 ⌝ }
-    ensures { λ _. ⌜ AtLevel (now (d .entry)) r (now (s .exit)) n ⌝ }
+    ensures { λ _. ⌜ Members (now (s .exit)) n (AtDistance (now (d .entry)) r) ⌝ }
 {
     rows::clear(s);
     for y in 0..n {
@@ -25,10 +29,10 @@ fn level(n: usize, d: &[u8; Listing::NODES], r: u8, s: &mut [u64; 2])
 
 // Gives x the distance r + 1, if it has none and steps to a node of s: 1 where it did.
 fn visit(w: &[u64], s: &[u64], d: &mut [u8], x: usize, r: u8) -> usize
-    requires { ⌜ (2 * x + 1 < length (now w)) × (1 < length (now s)) × (x < length (now d)) × (r < 254) ⌝ }
-    ensures { λ c. ⌜ Visited (now (w .entry)) (now (s .entry)) (now (d .entry)) (now (d .exit)) x r c ⌝ }
+    requires { ⌜ (2 * x + 1 < length (now w)) × (1 < length (now s)) × (x < length (now d)) × (r + 1 < unreached) ⌝ }
+    ensures { λ c. ⌜ Swept (Into (now (w .entry)) (now (s .entry))) x (x + 1) (now (d .entry)) (now (d .exit)) r c ⌝ }
 {
-    if d[x] == 255 {
+    if d[x] == UNREACHED {
         if rows::meet(w, x, s, 0) {
             d[x] = r + 1;
             return 1;
@@ -39,8 +43,8 @@ fn visit(w: &[u64], s: &[u64], d: &mut [u8], x: usize, r: u8) -> usize
 
 // The same at every node: how many were given their distance.
 fn sweep(n: usize, w: &[u64; WORDS], s: &[u64; 2], d: &mut [u8; Listing::NODES], r: u8) -> usize
-    requires { ⌜ (n ≤ 128) × (r < 254) ⌝ }
-    ensures { λ c. ⌜ Swept n (now (w .entry)) (now (s .entry)) (now (d .entry)) (now (d .exit)) r c ⌝ }
+    requires { ⌜ (n ≤ 128) × (r + 1 < unreached) ⌝ }
+    ensures { λ c. ⌜ Swept (Into (now (w .entry)) (now (s .entry))) 0 n (now (d .entry)) (now (d .exit)) r c ⌝ }
 {
     let mut count = 0;
     for x in 0..n {
@@ -51,15 +55,15 @@ fn sweep(n: usize, w: &[u64; WORDS], s: &[u64; 2], d: &mut [u8; Listing::NODES],
 
 // Gives the distance r + 1 to all that have none and step to one at distance r: how many they are.
 fn round(n: usize, w: &[u64; WORDS], d: &mut [u8; Listing::NODES], r: u8) -> usize
-    requires { ⌜ (n ≤ 128) × (r < 254) ⌝ }
-    ensures { λ c. ⌜ Went n (now (w .entry)) (now (d .entry)) (now (d .exit)) r c ⌝ }
+    requires { ⌜ (n ≤ 128) × (r + 1 < unreached) ⌝ }
+    ensures { λ c. ⌜ Swept (Hits n (now (w .entry)) (now (d .entry)) r) 0 n (now (d .entry)) (now (d .exit)) r c ⌝ }
 {
     let mut s = [0u64; 2];
     level(n, d, r, &mut s);
     sweep(n, w, &s, d, r)
 }
 
-// 0 for a target, and no distance for others.
+// 0 for a goal, and no distance for others.
 fn start(n: usize, t: &[u64], x: usize) -> u8
     requires { ⌜ (1 < length (now t)) × (x < 128) ⌝ }
     ensures { λ v. ⌜ Starts n (now (t .entry)) x v ⌝ }
@@ -69,23 +73,23 @@ fn start(n: usize, t: &[u64], x: usize) -> u8
             return 0;
         }
     }
-    255
+    UNREACHED
 }
 
 // The same at every node.
 fn mark(n: usize, t: &[u64], d: &mut [u8])
     requires { ⌜ (1 < length (now t)) × (length (now d) ≡ 128) ⌝ }
-    ensures { λ _. ⌜ Marked n (now (t .entry)) (now (d .exit)) ⌝ }
+    ensures { λ _. ⌜ Started n (now (t .entry)) (now (d .exit)) ⌝ }
 {
     for x in 0..Listing::NODES {
         d[x] = start(n, t, x);
     }
 }
 
-// The least number of steps from each node to a node of t; 255 where there is no path.
+// The least number of steps from each node to a node of t; UNREACHED where there is no path.
 pub fn distances(n: usize, w: &[u64; WORDS], t: &[u64; 2], d: &mut [u8; Listing::NODES])
     requires { ⌜ n ≤ 128 ⌝ }
-    ensures { λ _. ⌜ Far n (Link n (now (w .entry))) (Target n (now (t .entry))) (now (d .exit)) ⌝ }
+    ensures { λ _. ⌜ Far n (Link n (now (w .entry))) (Goal n (now (t .entry))) (now (d .exit)) ⌝ }
 {
     mark(n, t, d);
     let mut r = 0;
@@ -108,12 +112,12 @@ fn nearer(v: &[u64], d: &[u8], x: usize, y: usize, r: u8) -> u8
     r
 }
 
-// The least distance among the nodes of row x; 255 where none has one.
+// The least distance among the nodes of row x; UNREACHED where none has one.
 fn nearest(n: usize, v: &[u64; WORDS], d: &[u8; Listing::NODES], x: usize) -> u8
     requires { ⌜ (n ≤ 128) × (x < n) ⌝ }
     ensures { λ r. ⌜ Nearest n (now (v .entry)) (now (d .entry)) x r ⌝ }
 {
-    let mut r: u8 = 255;
+    let mut r = UNREACHED;
     for y in 0..n {
         r = nearer(v, d, x, y, r);
     }
@@ -123,7 +127,7 @@ fn nearest(n: usize, v: &[u64; WORDS], d: &[u8; Listing::NODES], x: usize) -> u8
 // Whether x hops to c and c has a pair into s.
 fn is_mid(m: &[u64], w: &[u64], s: &[u64], x: usize, c: usize) -> bool
     requires { ⌜ (2 * x + 1 < length (now m)) × (2 * c + 1 < length (now w)) × (1 < length (now s)) × (c < 128) ⌝ }
-    ensures { λ b. ⌜ Tells b (Has (now (m .entry)) x c × Meet (now (w .entry)) c (now (s .entry)) 0) ⌝ }
+    ensures { λ b. ⌜ Tells b (Mid (now (m .entry)) (now (w .entry)) (now (s .entry)) x c) ⌝ }
 {
     if rows::has(m, x, c) {
         return rows::meet(w, c, s, 0);
@@ -131,10 +135,10 @@ fn is_mid(m: &[u64], w: &[u64], s: &[u64], x: usize, c: usize) -> bool
     false
 }
 
-// The least such c.
+// The least such c below n, or n.
 fn first_mid(n: usize, m: &[u64; WORDS], w: &[u64; WORDS], s: &[u64; 2], x: usize) -> usize
-    requires { ⌜ (n ≤ 128) × (x < n) × ((c : ℕ) × (c < n) × Has (now m) x c × Meet (now w) c (now s) 0) ⌝ }
-    ensures { λ c. ⌜ FirstMid n (now (m .entry)) (now (w .entry)) (now (s .entry)) x c ⌝ }
+    requires { ⌜ (n ≤ 128) × (x < n) ⌝ }
+    ensures { λ c. ⌜ Least (Mid (now (m .entry)) (now (w .entry)) (now (s .entry)) x) 0 n c ⌝ }
 {
     let mut c = rows::next(m, x, 0, n);
     while c < n {
@@ -143,13 +147,13 @@ fn first_mid(n: usize, m: &[u64; WORDS], w: &[u64; WORDS], s: &[u64; 2], x: usiz
         }
         c = rows::next(m, x, c + 1, n);
     }
-    0
+    n
 }
 
 // Whether c has a pair to y and y is in s.
 fn is_end(w: &[u64], s: &[u64], c: usize, y: usize) -> bool
     requires { ⌜ (2 * c + 1 < length (now w)) × (1 < length (now s)) × (y < 128) ⌝ }
-    ensures { λ b. ⌜ Tells b (Has (now (w .entry)) c y × Has (now (s .entry)) 0 y) ⌝ }
+    ensures { λ b. ⌜ Tells b (End (now (w .entry)) (now (s .entry)) c y) ⌝ }
 {
     if rows::has(w, c, y) {
         return rows::has(s, 0, y);
@@ -157,10 +161,10 @@ fn is_end(w: &[u64], s: &[u64], c: usize, y: usize) -> bool
     false
 }
 
-// The least such y.
+// The least such y below n, or n.
 fn first_end(n: usize, w: &[u64; WORDS], s: &[u64; 2], c: usize) -> usize
-    requires { ⌜ (n ≤ 128) × (c < n) × ((y : ℕ) × (y < n) × Has (now w) c y × Has (now s) 0 y) ⌝ }
-    ensures { λ y. ⌜ FirstEnd n (now (w .entry)) (now (s .entry)) c y ⌝ }
+    requires { ⌜ (n ≤ 128) × (c < n) ⌝ }
+    ensures { λ y. ⌜ Least (End (now (w .entry)) (now (s .entry)) c) 0 n y ⌝ }
 {
     let mut y = rows::next(w, c, 0, n);
     while y < n {
@@ -169,7 +173,7 @@ fn first_end(n: usize, w: &[u64; WORDS], s: &[u64; 2], c: usize) -> usize
         }
         y = rows::next(w, c, y + 1, n);
     }
-    0
+    n
 }
 
 // Writes a pair at i.
@@ -209,7 +213,7 @@ fn descend(
     }
 }
 
-// The least of the shortest chains of at least one pair from x to a node of t, into the front of out: hops by m, pairs by w.
+// The least of the shortest courses of at least one pair from x to a node of t, into the front of out: hops by m, pairs by w.
 // Answers how many pairs it has, 0 where there is none. v and d are for the work.
 pub fn chain(
     n: usize,
@@ -221,13 +225,13 @@ pub fn chain(
     d: &mut [u8; Listing::NODES],
     out: &mut [u8],
 ) -> usize
-    requires { ⌜ Asked n (now m) (now w) (now out) x ⌝ }
-    ensures { λ k. ⌜ Shown n (now (m .entry)) (now (w .entry)) (now (t .entry)) (now (out .entry)) (now (out .exit)) x k ⌝ }
+    requires { ⌜ Sought n (now m) (now w) (now out) x ⌝ }
+    ensures { λ k. ⌜ ShownCourse n (now (m .entry)) (now (w .entry)) (now (t .entry)) (now (out .entry)) (now (out .exit)) x k ⌝ }
 {
     reach::compose(n, m, w, v);
     distances(n, v, t, d);
     let r = nearest(n, v, d, x);
-    if r == 255 {
+    if r == UNREACHED {
         return 0;
     }
     descend(n, m, w, d, x, r + 1, out);

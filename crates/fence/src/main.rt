@@ -22,7 +22,7 @@ fn map_length(bytes: &[u8]) -> usize
 
 // The patched listing's bytes, or the refusal line.
 fn write(bytes: &[u8], map: &[u8]) {
-    let mut out = [0u8; say::LONGEST];
+    let mut out = [0u8; Listing::LONGEST];
     match patch::write(bytes, map, &mut out) {
         WriteAnswer::Written { length } => say::text(&out[..length]),
         WriteAnswer::Refused { number, place } => say::refused(number, place),
@@ -41,11 +41,8 @@ fn fence(question: u64, bytes: &[u8]) {
 }
 
 fn main() {
+    let question = say::question();
     let mut input = [0u8; say::INPUT];
     let n = io::read_full(STDIN_FILENO, &mut input);
-    if n == 0 {
-        say::refused(1, 0);
-        return;
-    }
-    fence(listing::wide(input[0]) as u64, &input[1..n]);
+    fence(question, &input[..n]);
 }

@@ -6,9 +6,12 @@ use Prim.Native.Nat.{ℕ, _+_, _≤_, _<_}
 use native.Mathlib.Omega.{arith}
 use native.Mathlib.Numerals.{add-one}
 use lib.ListN.{length, getD, drop, length-map, drop-of-length-le, List·getD-map}
-use lib.Seq.{drop-cons}
+use Rattle.listing.specs.Bytes.{nodesOf}
+use Rattle.listing.proofs.Nodes.{nodes-length}
+use Rattle.listing.proofs.Stores.{next}
 use Rattle.order.specs.Patched.{Marks, marked, places}
 use Rattle.fencing.specs.Marks.{isMark, marksOf}
+use Rattle.fencing.specs.Inner.MapFits.{MapFits}
 use Rattle.fencing.specs.Inner.Putting.{nextAfter}
 
 pub marks-length : (bytes : List ℕ) → length (marksOf bytes) ≡ length bytes
@@ -18,10 +21,6 @@ marks-length bytes = length-map bytes isMark
 pub marks-at : (bytes : List ℕ) (i : ℕ) → marked (marksOf bytes) i ≡ isMark (getD bytes i 0)
 unfolding marksOf
 marks-at bytes i = List·getD-map isMark bytes i 0
-
--- what is left of a list from i on begins with its entry i
-pub next : {A : Type 0} (l : List A) (i : ℕ) (d : A) → i < length l → drop i l ≡ getD l i d ∷ drop (i + 1) l
-next l i d h = rw (add-one, drop-cons l i d)
 
 places-step : (b : Bool) (ms : Marks) (k : ℕ) → nextAfter b k + places ms ≡ k + places (b ∷ ms)
 places-step true ms k = omega arith
@@ -34,6 +33,10 @@ places-next ms i k h = places-step (marked ms i) (drop (i + 1) ms) k ∙ ap (λ 
 -- nothing is left past the end
 pub places-end : (bytes : List ℕ) (i : ℕ) → length bytes ≤ i → places (drop i (marksOf bytes)) ≡ 0
 places-end bytes i h = ap places (drop-of-length-le (marksOf bytes) {i = i} (omega (arith, marks-length bytes)))
+
+-- a map that fits has a mark for no more than the nodes
+pub mapped : (s bytes : List ℕ) → MapFits s bytes → length (marksOf bytes) ≤ length (nodesOf s)
+mapped s bytes fits = omega (arith, marks-length bytes, nodes-length s, fits .each)
 
 -- THE PLACES LEFT, PAST A MARK AND PAST NONE
 module _ (bytes : List ℕ) (i k : ℕ) {b : Bool} (h : i < length bytes) (is : b ≡ marked (marksOf bytes) i) where

@@ -9,8 +9,8 @@ use native.Mathlib.Decide.{decLt}
 use lib.ListN.{length, take}
 use lib.Seq.{ext-getD}
 use Rattle.listing.specs.Node.{Node, blank, Listing, node}
+use Rattle.listing.proofs.Bools.{bool?}
 use Rattle.order.specs.Patched.{Marks, marked, places, patched}
-use Rattle.order.proofs.Bools.{bool?}
 use Rattle.order.proofs.Patch.{rank, length-patched, patched-unmarked, patched-marked, patched-fence, patched-kind, patched-loc, patched-new}
 use Rattle.fencing.specs.Written.{fenceNumber, FenceAfter, Fenced}
 use Rattle.fencing.proofs.PatchedValid.{patched-routine}
@@ -51,29 +51,29 @@ module _ (L : Listing) (ms : Marks) (fit : length ms ≤ length L) where
       at a = ap (λ (k : ℕ). length L + k) (rank-before ms a)
 
       fence-at : (a : ℕ) → a < length L → marked ms a ≡ true → FenceAfter (node L a) (node (patched L ms) (length L + rank ms a))
-      fence-at a h e = subst (FenceAfter (node L a)) (sym (patched-fence L ms a h e)) (record { routine = refl; kind = refl; location = refl; first = refl; second = refl })
+      fence-at a h e =
+          subst (FenceAfter (node L a)) (sym (patched-fence L ms a h e))
+          (record { routine = refl; kind = refl; location = refl; first = refl; second = refl })
 
-same-node : (n m : Node) → n .routine ≡ m .routine → n .kind ≡ m .kind → n .location ≡ m .location → n .first ≡ m .first → n .second ≡ m .second → n ≡ m
-same-node n m r k l x y = λ i. record { routine = r i; kind = k i; location = l i; first = x i; second = y i }
+same-node : {n m : Node} → n .routine ≡ m .routine → n .kind ≡ m .kind → n .location ≡ m .location → n .first ≡ m .first → n .second ≡ m .second → n ≡ m
+same-node r k l x y = λ i. record { routine = r i; kind = k i; location = l i; first = x i; second = y i }
 
 module _ {L : Listing} {ms : Marks} {M P : Listing} (m : Fenced L ms M) (p : Fenced L ms P) where
+  same-kept : (a : ℕ) → a < length L → node M a .first ≡ node P a .first → node M a .second ≡ node P a .second → node M a ≡ node P a
+  same-kept a h x y =
+      let j = m .keeps a h in
+      let k = p .keeps a h in
+      same-node (j .routine ∙ sym (k .routine)) (j .kind ∙ sym (k .kind)) (j .location ∙ sym (k .location)) x y
+
   same-old : (a : ℕ) → a < length L → (marked ms a ≡ true) ⊎ (marked ms a ≡ false) → node M a ≡ node P a
-  same-old a h (inl e) =
-      let j = m .keeps a h in
-      let k = p .keeps a h in
-      same-node (node M a) (node P a) (j .routine ∙ sym (k .routine)) (j .kind ∙ sym (k .kind)) (j .location ∙ sym (k .location))
-      (m .leads a h e .0 ∙ sym (p .leads a h e .0)) (m .leads a h e .1 ∙ sym (p .leads a h e .1))
-  same-old a h (inr e) =
-      let j = m .keeps a h in
-      let k = p .keeps a h in
-      same-node (node M a) (node P a) (j .routine ∙ sym (k .routine)) (j .kind ∙ sym (k .kind)) (j .location ∙ sym (k .location))
-      (m .unmarked a h e .0 ∙ sym (p .unmarked a h e .0)) (m .unmarked a h e .1 ∙ sym (p .unmarked a h e .1))
+  same-old a h (inl e) = same-kept a h (m .leads a h e .0 ∙ sym (p .leads a h e .0)) (m .leads a h e .1 ∙ sym (p .leads a h e .1))
+  same-old a h (inr e) = same-kept a h (m .unmarked a h e .0 ∙ sym (p .unmarked a h e .0)) (m .unmarked a h e .1 ∙ sym (p .unmarked a h e .1))
 
   same-fence : (a : ℕ) → a < length L → marked ms a ≡ true → node M (fenceNumber L ms a) ≡ node P (fenceNumber L ms a)
   same-fence a h e =
       let j = m .fence a h e in
       let k = p .fence a h e in
-      same-node (node M (fenceNumber L ms a)) (node P (fenceNumber L ms a)) (j .routine ∙ sym (k .routine)) (j .kind ∙ sym (k .kind)) (j .location ∙ sym (k .location))
+      same-node (j .routine ∙ sym (k .routine)) (j .kind ∙ sym (k .kind)) (j .location ∙ sym (k .location))
       (j .first ∙ sym (k .first)) (j .second ∙ sym (k .second))
 
   -- ANY TWO LISTINGS THAT ARE SO FENCED ARE EQUAL

@@ -8,13 +8,13 @@ use native.Mathlib.Decide.{decLt}
 use lib.ListN.{length}
 use Rattle.listing.specs.Node.{Node, Listing, node}
 use Rattle.listing.specs.Valid.{Goes, NodeOk, Valid}
+use Rattle.listing.proofs.Bools.{bool?}
 use Rattle.order.specs.Patched.{Marks, marked, redirect, fenceAfter, patched}
-use Rattle.order.proofs.Bools.{bool?}
 use Rattle.order.proofs.Patch.{Target, Links, fenceOf, fence-in, patched-unmarked, patched-marked, patched-fence, patched-new, patched-grows}
 
 -- the successors of a valid listing's nodes are none, or nodes
-pub valid-links : (f : ℕ) (L : Listing) → Valid f L → Links L
-valid-links f L v a h = (go (node L a .first) (v a h .first), go (node L a .second) (v a h .second))
+pub valid-links : (v f : ℕ) (L : Listing) → Valid v f L → Links L
+valid-links v f L ok a h = (go (node L a .first) (ok a h .first), go (node L a .second) (ok a h .second))
   where
     go : (s : ℕ) → Goes L (node L a) s → Target L s
     go s (inl e) = inl e
@@ -33,10 +33,10 @@ module _ (L : Listing) (ms : Marks) where
   goes-patched n s (inl e) = inl e
   goes-patched n s (inr g) = inr (omega (arith, g .0, patched-grows L ms), patched-routine s (g .0) ∙ g .1)
 
-  module _ (f : ℕ) (v : Valid f L) where
-    same-ok : (a : ℕ) → a < length L → NodeOk f (patched L ms) (node L a)
+  module _ (v f : ℕ) (valid : Valid v f L) where
+    same-ok : (a : ℕ) → a < length L → NodeOk v f (patched L ms) (node L a)
     same-ok a h =
-        let o = v a h in
+        let o = valid a h in
         record {
           routine = o .routine;
           kind = o .kind;
@@ -46,9 +46,9 @@ module _ (L : Listing) (ms : Marks) where
           order = o .order;
         }
 
-    redirect-ok : (a : ℕ) → a < length L → marked ms a ≡ true → NodeOk f (patched L ms) (redirect (node L a) (fenceOf L ms a))
+    redirect-ok : (a : ℕ) → a < length L → marked ms a ≡ true → NodeOk v f (patched L ms) (redirect (node L a) (fenceOf L ms a))
     redirect-ok a h e =
-        let o = v a h in
+        let o = valid a h in
         record {
           routine = o .routine;
           kind = o .kind;
@@ -58,22 +58,22 @@ module _ (L : Listing) (ms : Marks) where
           order = inl refl;
         }
 
-    fence-ok : (a : ℕ) → a < length L → NodeOk f (patched L ms) (fenceAfter (node L a))
+    fence-ok : (a : ℕ) → a < length L → NodeOk v f (patched L ms) (fenceAfter (node L a))
     fence-ok a h =
         let o = same-ok a h in
         record { routine = o .routine; kind = omega arith; location = λ k. refl; first = o .first; second = o .second; order = o .order }
 
     -- A PATCHED LISTING IS VALID
-    pub patched-valid : Valid f (patched L ms)
+    pub patched-valid : Valid v f (patched L ms)
     patched-valid x h = go (decLt x (length L))
       where
-        old : x < length L → (marked ms x ≡ true) ⊎ (marked ms x ≡ false) → NodeOk f (patched L ms) (node (patched L ms) x)
-        old k (inl e) = subst (NodeOk f (patched L ms)) (sym (patched-marked L ms x k e)) (redirect-ok x k e)
-        old k (inr e) = subst (NodeOk f (patched L ms)) (sym (patched-unmarked L ms x k e)) (same-ok x k)
+        old : x < length L → (marked ms x ≡ true) ⊎ (marked ms x ≡ false) → NodeOk v f (patched L ms) (node (patched L ms) x)
+        old k (inl e) = subst (NodeOk v f (patched L ms)) (sym (patched-marked L ms x k e)) (redirect-ok x k e)
+        old k (inr e) = subst (NodeOk v f (patched L ms)) (sym (patched-unmarked L ms x k e)) (same-ok x k)
 
-        go : Dec (x < length L) → NodeOk f (patched L ms) (node (patched L ms) x)
+        go : Dec (x < length L) → NodeOk v f (patched L ms) (node (patched L ms) x)
         go (yes k) = old k (bool? (marked ms x))
         go (no n) =
             let r = patched-new L ms x (omega arith) h in
-            subst (λ (y : ℕ). NodeOk f (patched L ms) (node (patched L ms) y)) (r .3)
-            (subst (NodeOk f (patched L ms)) (sym (patched-fence L ms (r .0) (r .1) (r .2))) (fence-ok (r .0) (r .1)))
+            subst (λ (y : ℕ). NodeOk v f (patched L ms) (node (patched L ms) y)) (r .3)
+            (subst (NodeOk v f (patched L ms)) (sym (patched-fence L ms (r .0) (r .1) (r .2))) (fence-ok (r .0) (r .1)))

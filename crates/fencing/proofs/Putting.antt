@@ -9,10 +9,9 @@ use lib.Seq.{sets}
 use Rattle.listing.specs.Limits.{RECORD}
 use Rattle.listing.specs.Node.{Node, blank, Listing, node}
 use Rattle.listing.specs.Bytes.{recordAt, nodeBytes, nodesBytes}
-use Rattle.listing.proofs.Stores.{sets-append}
+use Rattle.listing.proofs.Stores.{next, sets-append}
 use Rattle.order.specs.Patched.{Marks, marked, redirect, fenceAfter, kept, fences}
 use Rattle.fencing.specs.Inner.Putting.{keptAs, fenceIf, nextAfter}
-use Rattle.fencing.proofs.Marks.{next}
 
 -- a record put with the numbers of the node m puts m's bytes
 pub put : (out : List ℕ) (o : ℕ) {out′ : List ℕ} {r k l x y : ℕ} (m : Node) (bytes : List ℕ)

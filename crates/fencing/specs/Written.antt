@@ -1,9 +1,10 @@
--- A listing with fences put in, said number by number, and what the writer leaves in the lent buffer.
+-- Serves only theorems (patched-fenced, fenced-unique, reads-back): a listing with fences put in, said number by number, and what the writer leaves.
 use mathlib.Core.Path.{_≡_}
 use mathlib.Core.Bool.{true, false}
 use mathlib.Core.List.{List}
 use Prim.Native.Nat.{ℕ, _+_, _≤_, _<_}
 use lib.ListN.{length, take, drop}
+use Rattle.listing.specs.Kinds.{FENCE}
 use Rattle.listing.specs.Node.{Node, none, Listing, node}
 use Rattle.listing.specs.Bytes.{versionOf, countF, nodesOf}
 use Rattle.listing.specs.Read.{Admitted}
@@ -23,7 +24,7 @@ pub record Keeps (n m : Node) : Type 0 where
 -- "A fence after node n has n's routine and n's old successors", and its "location is 0"
 pub record FenceAfter (n m : Node) : Type 0 where
   pub routine : m .routine ≡ n .routine
-  pub kind : m .kind ≡ 4
+  pub kind : m .kind ≡ FENCE
   pub location : m .location ≡ 0
   pub first : m .first ≡ n .first
   pub second : m .second ≡ n .second

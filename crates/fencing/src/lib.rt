@@ -5,7 +5,7 @@ ghost use lib.ListN.{length, drop};
 ghost use lib.Seq.{sets};
 ghost use Rattle.listing.specs.Limits.{NODES};
 ghost use Rattle.listing.specs.Node.{node};
-ghost use Rattle.listing.specs.Bytes.{countF, countN, recordAt, nodesOf, nodeBytes, nodesBytes, bytesOf};
+ghost use Rattle.listing.specs.Bytes.{versionOf, countF, countN, recordAt, nodesOf, nodeBytes, nodesBytes, bytesOf};
 ghost use Rattle.listing.specs.Answer.{filled};
 ghost use Rattle.order.specs.Patched.{marked, places, kept, fences, patched};
 ghost use Rattle.fencing.specs.Marks.{marksOf};
@@ -69,7 +69,7 @@ fn put_fence(s: &[u8], map: &[u8], out: &mut [u8], i: usize, at: usize) -> usize
     let first = listing::first_at(s, i);
     let second = listing::second_at(s, i);
     if is_marked(map, i) {
-        listing::put_record(&mut *out, at, routine, 4, 0, first, second);
+        listing::put_record(&mut *out, at, routine, listing::FENCE, 0, first, second);
         return at + 1;
     }
     at
@@ -111,12 +111,13 @@ fn put_fences(s: &[u8], map: &[u8], out: &mut [u8]) -> usize
 pub fn put_patched(s: &[u8], map: &[u8], out: &mut [u8]) -> usize
     requires { ⌜ MapFits (now s) (now map) × (recordAt (countN (now s) + places (marksOf (now map))) ≤ length (now out)) ⌝ }
     ensures { λ r. ⌜ (r ≡ recordAt (countN (now (s .entry)) + places (marksOf (now (map .entry)))))
-        × (now (out .exit) ≡ filled
-        (bytesOf (countF (now (s .entry))) (patched (nodesOf (now (s .entry))) (marksOf (now (map .entry))))) (now (out .entry))) ⌝ }
+        × (now (out .exit) ≡ filled (bytesOf (versionOf (now (s .entry))) (countF (now (s .entry)))
+        (patched (nodesOf (now (s .entry))) (marksOf (now (map .entry))))) (now (out .entry))) ⌝ }
 {
+    let version = listing::version(s);
     let routines = listing::routine_count(s);
     let nodes = listing::node_count(s) + places(map);
-    listing::put_heading(&mut *out, routines, nodes as u8);
+    listing::put_heading(&mut *out, version, routines, nodes as u8);
     put_nodes(s, map, &mut *out);
     let end = put_fences(s, map, &mut *out);
     Listing::HEADING + Listing::RECORD * end

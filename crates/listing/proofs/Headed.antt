@@ -1,5 +1,5 @@
 -- What an admitted heading says, and conversely.
-use mathlib.Core.Path.{_≡_, ap}
+use mathlib.Core.Path.{_≡_, refl, ap}
 use mathlib.Core.Bool.{false, not, _&&_}
 use mathlib.Core.List.{List}
 use Prim.Native.Nat.{ℕ, _≤_}
@@ -7,11 +7,13 @@ use native.Mathlib.Omega.{arith}
 use lib.Dec.{eqb, ltb}
 use borrow.Author.Tests.{ltb-false, eqb-true, eqb-false, not-false, le-ltb, eq-eqb, ne-eqb}
 use Rattle.listing.specs.Limits.{ROUTINES}
-use Rattle.listing.specs.Bytes.{byte, countF}
+use Rattle.listing.specs.Kinds.{isVersion}
+use Rattle.listing.specs.Bytes.{byte, versionOf, countF}
+use Rattle.listing.specs.Inner.Whole.{Whole}
 use Rattle.listing.specs.Rules.{NoneApplies}
 use Rattle.listing.specs.Read.{wrongMark, wrongF, headingRules, Admitted}
 use Rattle.listing.specs.Valid.{Headed}
-use Rattle.listing.proofs.Tests.{or-neither, neither-or, and-both}
+use Rattle.listing.proofs.Bools.{or-neither, neither-or, and-both, T-true, not-holds}
 use Rattle.listing.proofs.Rows.{rows-clear}
 
 mark-right : (s : List ℕ) → wrongMark s ≡ false → (byte s 0 ≡ 0x4F) × (byte s 1 ≡ 0x52) × (byte s 2 ≡ 0x44)
@@ -36,7 +38,7 @@ right-routines : (s : List ℕ) → 1 ≤ countF s → countF s ≤ ROUTINES →
 unfolding wrongF
 right-routines s low high = neither-or (eqb (countF s) 0) (ltb ROUTINES (countF s)) (ne-eqb (countF s) 0 (λ e. omega arith)) (le-ltb _ _ high)
 
-clear-headed : (s : List ℕ) → NoneApplies (headingRules s) → Headed s
+pub clear-headed : (s : List ℕ) → NoneApplies (headingRules s) → Headed s
 unfolding headingRules
 clear-headed s o =
     let m = mark-right s (o .1 .0) in
@@ -46,7 +48,7 @@ clear-headed s o =
       mark₀ = m .0;
       mark₁ = m .1;
       mark₂ = m .2;
-      version = eqb-true _ _ (not-false _ (o .1 .1 .0));
+      version = not-holds {r = isVersion (versionOf s)} (o .1 .1 .0) refl;
       some = r .0;
       routines = r .1;
       nodes = ltb-false _ _ (o .1 .1 .1 .1 .0);
@@ -55,22 +57,16 @@ clear-headed s o =
 
 pub headed-clear : (s : List ℕ) → Headed s → NoneApplies (headingRules s)
 unfolding headingRules
-headed-clear s h = (
-  le-ltb _ _ (h .long),
-  (
-    right-mark s (h .mark₀) (h .mark₁) (h .mark₂),
-    (
-      ap not (eq-eqb _ _ (h .version)),
-      (
-        right-routines s (h .some) (h .routines),
-        (
-          le-ltb _ _ (h .nodes),
-          (ap not (eq-eqb _ _ (h .exact)), tt),
-        ),
-      ),
-    ),
-  ),
-)
+headed-clear s h =
+    let mark = right-mark s (h .mark₀) (h .mark₁) (h .mark₂) in
+    let version = ap not (T-true (isVersion (versionOf s)) (h .version)) in
+    let routines = right-routines s (h .some) (h .routines) in
+    let exact = ap not (eq-eqb _ _ (h .exact)) in
+    (le-ltb _ _ (h .long), (mark, (version, (routines, (le-ltb _ _ (h .nodes), (exact, tt))))))
+
+-- such a listing has all its records
+pub headed-whole : (s : List ℕ) → Headed s → Whole s
+headed-whole s h = record { few = h .nodes; long = omega (arith, h .exact) }
 
 -- AN ADMITTED LISTING'S HEADING
 pub admitted-headed : (s : List ℕ) → Admitted s → Headed s

@@ -5,7 +5,7 @@ use mathlib.Core.List.{List}
 use Prim.Native.Nat.{ℕ}
 use native.Mathlib.Omega.{arith}
 use Rattle.listing.specs.Bytes.{countN, countF}
-use Rattle.listing.specs.Rules.{Refusal, passed, refused, firstOf, First, NoneApplies}
+use Rattle.listing.specs.Rules.{Refusal, passed, refused, firstOf, FirstRow, NoneApplies}
 use Rattle.listing.specs.Answer.{Answer, done, refusal}
 use Rattle.listing.specs.Read.{readRules, Admitted, readSays, readBy, readOf}
 use Rattle.listing.specs.declared.Listing.{Listing}
@@ -32,7 +32,7 @@ unfolding readOf
 read-good s r l e is = done-by (firstOf (readRules s)) (countN s) (countF s) (l .nodes) (l .routines) (sym e ∙ ap readSays is)
 
 -- REFUSAL k AT p IS GIVEN EXACTLY IF RULE k APPLIES AT p AND NO EARLIER RULE DOES
-pub refused-exactly : (s : List ℕ) (r : ReadAnswer) → readSays r ≡ readOf s → (k p : ℕ) → (readSays r ≡ refusal k p) ↔ First (readRules s) k p
+pub refused-exactly : (s : List ℕ) (r : ReadAnswer) → readSays r ≡ readOf s → (k p : ℕ) → (readSays r ≡ refusal k p) ↔ FirstRow (readRules s) k p
 unfolding readOf
 refused-exactly s r e k p = (
   λ h. exact (readRules s) k p (refused-by (firstOf (readRules s)) (countN s) (countF s) k p (sym e ∙ h)),
@@ -40,7 +40,8 @@ refused-exactly s r e k p = (
 )
 
 -- A LISTING IS READ EXACTLY IF NO RULE APPLIES, AND THEN WITH ITS COUNTS
-pub good-exactly : (s : List ℕ) (r : ReadAnswer) → readSays r ≡ readOf s → (n f : ℕ) → (readSays r ≡ done n f 0) ↔ (NoneApplies (readRules s) × (n ≡ countN s) × (f ≡ countF s))
+pub good-exactly : (s : List ℕ) (r : ReadAnswer) → readSays r ≡ readOf s → (n f : ℕ)
+    → (readSays r ≡ done n f 0) ↔ (NoneApplies (readRules s) × (n ≡ countN s) × (f ≡ countF s))
 unfolding readOf
 good-exactly s r e n f = (
   λ h.

@@ -9,7 +9,8 @@ use lib.ListN.{length, drop, drop-of-length-le}
 use lib.Seq.{getD-append-add, drop-cons}
 use Rattle.listing.specs.Limits.{HEADING, RECORD}
 use Rattle.listing.specs.Node.{Node, Listing}
-use Rattle.listing.specs.Bytes.{byte, word, countF, countN, recordAt, nodeFrom, nodesFrom, nodesOf, headingBytes, nodeBytes, nodesBytes, bytesOf}
+use Rattle.listing.specs.Bytes.{byte, word, versionOf, countF, countN, recordAt, nodeFrom, nodesFrom, nodesOf}
+use Rattle.listing.specs.Bytes.{headingBytes, nodeBytes, nodesBytes, bytesOf}
 use Rattle.listing.specs.Read.{Admitted}
 use Rattle.listing.specs.Valid.{Headed}
 use Rattle.listing.proofs.Nodes.{nodes-length}
@@ -21,15 +22,17 @@ nodes-bytes-length [] = refl
 nodes-bytes-length (n ∷ ns) = omega (arith, nodes-bytes-length ns)
 
 -- "The whole is exactly 7 + 6N bytes"
-pub bytes-length : (f : ℕ) (L : Listing) → length (bytesOf f L) ≡ recordAt (length L)
+pub bytes-length : (v f : ℕ) (L : Listing) → length (bytesOf v f L) ≡ recordAt (length L)
 unfolding bytesOf
-bytes-length f L = omega (arith, nodes-bytes-length L)
+bytes-length v f L = omega (arith, nodes-bytes-length L)
+
+-- a number of two bytes
+word-read : (w : ℕ) → word (w % 256) (w / 256) ≡ w
+word-read w = omega arith
 
 record-read : (n : Node) (rest : List ℕ) → nodeFrom (nodeBytes n ++ rest) 0 ≡ n
-record-read n rest = λ i. record { routine = n .routine; kind = n .kind; location = back i; first = n .first; second = n .second }
-  where
-    back : word (n .location % 256) (n .location / 256) ≡ n .location
-    back = omega arith
+record-read n rest =
+    λ i. record { routine = n .routine; kind = n .kind; location = word-read (n .location) i; first = n .first; second = n .second }
 
 past : (us s : List ℕ) (o k : ℕ) → byte (us ++ s) (length us + o + k) ≡ byte s (o + k)
 past us s o k = rw add-assoc (getD-append-add us s (o + k) 0)
@@ -50,20 +53,24 @@ records-past us s o (suc k) = ap₂ (λ (x : Node) (xs : Listing). x ∷ xs) (re
 
 records-read : (L : Listing) → nodesFrom (nodesBytes L) 0 (length L) ≡ L
 records-read [] = refl
-records-read (n ∷ ns) = ap₂ (λ (x : Node) (xs : Listing). x ∷ xs) (record-read n (nodesBytes ns)) (records-past (nodeBytes n) (nodesBytes ns) 0 (length ns) ∙ records-read ns)
+records-read (n ∷ ns) =
+    ap₂ (λ (x : Node) (xs : Listing). x ∷ xs)
+    (record-read n (nodesBytes ns))
+    (records-past (nodeBytes n) (nodesBytes ns) 0 (length ns) ∙ records-read ns)
 
-pub read-countF : (f : ℕ) (L : Listing) → countF (bytesOf f L) ≡ f
-unfolding bytesOf
-read-countF f L = refl
+-- READING WHAT WAS WRITTEN, of whatever version, gives the heading's numbers and the nodes back
+module _ (v f : ℕ) (L : Listing) where
+  pub read-version : versionOf (bytesOf v f L) ≡ v
+  unfolding bytesOf
+  read-version = word-read v
 
-pub read-countN : (f : ℕ) (L : Listing) → countN (bytesOf f L) ≡ length L
-unfolding bytesOf
-read-countN f L = refl
+  pub read-countF : countF (bytesOf v f L) ≡ f
+  unfolding bytesOf
+  read-countF = refl
 
--- READING WHAT WAS WRITTEN gives the nodes back
-pub read-written : (f : ℕ) (L : Listing) → nodesOf (bytesOf f L) ≡ L
-unfolding nodesOf bytesOf
-read-written f L = records-past (headingBytes f (length L)) (nodesBytes L) 0 (length L) ∙ records-read L
+  pub read-written : nodesOf (bytesOf v f L) ≡ L
+  unfolding nodesOf bytesOf
+  read-written = records-past (headingBytes v f (length L)) (nodesBytes L) 0 (length L) ∙ records-read L
 
 -- ── Writing what was read ───────────────────────────────────────────────────
 -- k bytes from place o on
@@ -82,11 +89,17 @@ drop-run s o (suc k) h =
 abbrev pub Bytes : List ℕ → Type 0
 Bytes s = (i : ℕ) → byte s i < 256
 
+low-byte : (a b : ℕ) → a < 256 → word a b % 256 ≡ a
+low-byte a b h = omega arith
+
+high-byte : (a b : ℕ) → a < 256 → word a b / 256 ≡ b
+high-byte a b h = omega arith
+
 record-written : (s : List ℕ) (o : ℕ) → Bytes s → nodeBytes (nodeFrom s o) ≡ run s o RECORD
 record-written s o b =
-    let low : word (byte s (o + 2)) (byte s (o + 3)) % 256 ≡ byte s (o + 2) = omega (arith, b (o + 2)) in
-    let high : word (byte s (o + 2)) (byte s (o + 3)) / 256 ≡ byte s (o + 3) = omega (arith, b (o + 2)) in
-    rw (low, high) (simp towards-suc)
+    let x = byte s (o + 2) in
+    let y = byte s (o + 3) in
+    rw (low-byte x y (b (o + 2)), high-byte x y (b (o + 2))) (simp towards-suc)
 
 records-written : (s : List ℕ) (o k : ℕ) → Bytes s → length s ≡ o + RECORD * k → nodesBytes (nodesFrom s o k) ≡ drop o s
 records-written s o zero b h = sym (drop-of-length-le s {i = o} (omega arith))
@@ -94,22 +107,22 @@ records-written s o (suc k) b h =
     ap₂ (λ (x y : List ℕ). x ++ y) (record-written s o b) (records-written s (o + RECORD) k b (omega arith))
     ∙ sym (drop-run s o RECORD (omega arith))
 
-heading-written : (s : List ℕ) → Headed s → headingBytes (countF s) (countN s) ≡ run s 0 HEADING
-heading-written s h =
-    let v₀ : byte s 3 ≡ 1 = omega (arith, h .version) in
-    let v₁ : byte s 4 ≡ 0 = omega (arith, h .version) in
-    rw (h .mark₀, h .mark₁, h .mark₂, v₀, v₁)
+heading-written : (s : List ℕ) → Bytes s → Headed s → headingBytes (versionOf s) (countF s) (countN s) ≡ run s 0 HEADING
+heading-written s b h =
+    let x = byte s 3 in
+    let y = byte s 4 in
+    rw (h .mark₀, h .mark₁, h .mark₂, low-byte x y (b 3), high-byte x y (b 3))
 
 nodes-written : (s : List ℕ) → Bytes s → length s ≡ recordAt (countN s) → nodesBytes (nodesOf s) ≡ drop HEADING s
 unfolding nodesOf
 nodes-written s b h = records-written s HEADING (countN s) b h
 
 -- WRITING WHAT WAS READ gives the bytes back
-pub write-read : (s : List ℕ) → Bytes s → Admitted s → bytesOf (countF s) (nodesOf s) ≡ s
+pub write-read : (s : List ℕ) → Bytes s → Admitted s → bytesOf (versionOf s) (countF s) (nodesOf s) ≡ s
 unfolding bytesOf
 write-read s b e =
     let h = admitted-headed s e in
     ap₂ (λ (x y : List ℕ). x ++ y)
-    (ap (headingBytes (countF s)) (nodes-length s) ∙ heading-written s h)
+    (ap (headingBytes (versionOf s) (countF s)) (nodes-length s) ∙ heading-written s b h)
     (nodes-written s b (h .exact))
     ∙ sym (drop-run s 0 HEADING (h .long))

@@ -10,20 +10,20 @@ use Rattle.listing.specs.Read.{headingRules, nodeRules, nodesRules, read
 use Rattle.listing.proofs.Table.{pass, pass-first, pass-then, none-applies, lets-pass}
 
 -- node j's rows let the listing pass
-abbrev Clear : List ℕ → ℕ → Type 0
-Clear s j = firstOf (nodeRules s j) ≡ passed
+abbrev Passes : List ℕ → ℕ → Type 0
+Passes s j = firstOf (nodeRules s j) ≡ passed
 
-each : (s : List ℕ) (i k : ℕ) → firstOf (nodesRules s i k) ≡ passed → (j : ℕ) → i ≤ j → j < i + k → Clear s j
+each : (s : List ℕ) (i k : ℕ) → firstOf (nodesRules s i k) ≡ passed → (j : ℕ) → i ≤ j → j < i + k → Passes s j
 each s i zero e j low high = absurd (omega arith)
 each s i (suc k) e j low high = go (λ h. each s (suc i) k (pass-then (nodeRules s i) (nodesRules s (suc i) k) e) j h (omega arith)) (decLt i j)
   where
-    go : (i < j → Clear s j) → Dec (i < j) → Clear s j
+    go : (i < j → Passes s j) → Dec (i < j) → Passes s j
     go later (yes h) = later h
     go later (no h) =
         let this : i ≡ j = omega arith in
-        subst (Clear s) this (pass-first (nodeRules s i) (nodesRules s (suc i) k) e)
+        subst (Passes s) this (pass-first (nodeRules s i) (nodesRules s (suc i) k) e)
 
-every : (s : List ℕ) (i k : ℕ) → ((j : ℕ) → i ≤ j → j < i + k → Clear s j) → firstOf (nodesRules s i k) ≡ passed
+every : (s : List ℕ) (i k : ℕ) → ((j : ℕ) → i ≤ j → j < i + k → Passes s j) → firstOf (nodesRules s i k) ≡ passed
 every s i zero f = refl
 every s i (suc k) f =
     pass (nodeRules s i) (nodesRules s (suc i) k) (f i (omega arith) (omega arith))

@@ -4,8 +4,15 @@ use mathlib.Core.Bool.{Bool, true, false, cond}
 use mathlib.Core.List.{List, [], _∷_, _++_}
 use Prim.Native.Nat.{ℕ, zero, suc}
 use native.Mathlib.Omega.{arith}
-use Rattle.listing.specs.Rules.{Rule, Refusal, passed, refused, firstOf, First, here, later, NoneApplies}
+use Rattle.listing.specs.Rules.{Rule, Refusal, passed, refused, firstOf, FirstRow, here, later, NoneApplies}
 use Rattle.listing.specs.Inner.Numbered.{orElse, numbered}
+
+-- a row that does not apply, and one that does
+pub row-passes : {t : Bool} (k p : ℕ) (y : Refusal) → t ≡ false → cond t (refused k p) y ≡ y
+row-passes k p y e = ap (λ (b : Bool). cond b (refused k p) y) e
+
+pub row-applies : {t : Bool} (k p : ℕ) (y : Refusal) → t ≡ true → cond t (refused k p) y ≡ refused k p
+row-applies k p y e = ap (λ (b : Bool). cond b (refused k p) y) e
 
 -- one table after another
 push : (t : Bool) (k p : ℕ) (y z : Refusal) → cond t (refused k p) (orElse y z) ≡ orElse (cond t (refused k p) y) z
@@ -15,7 +22,8 @@ push false k p y z = refl
 pub firstOf-append : (a b : List Rule) → firstOf (a ++ b) ≡ orElse (firstOf a) (firstOf b)
 firstOf-append [] b = refl
 firstOf-append (r ∷ rs) b =
-    ap (λ (y : Refusal). cond (r .when) (refused (r .number) (r .place)) y) (firstOf-append rs b) ∙ push (r .when) (r .number) (r .place) (firstOf rs) (firstOf b)
+    ap (cond (r .when) (refused (r .number) (r .place))) (firstOf-append rs b)
+    ∙ push (r .when) (r .number) (r .place) (firstOf rs) (firstOf b)
 
 pub pass : (a b : List Rule) → firstOf a ≡ passed → firstOf (a ++ b) ≡ firstOf b
 pass a b e = firstOf-append a b ∙ ap (λ (y : Refusal). orElse y (firstOf b)) e
@@ -59,20 +67,21 @@ none-applies (r ∷ rs) e =
 
 pub lets-pass : (rs : List Rule) → NoneApplies rs → firstOf rs ≡ passed
 lets-pass [] o = refl
-lets-pass (r ∷ rs) o = ap (λ (t : Bool). cond t (refused (r .number) (r .place)) (firstOf rs)) (o .0) ∙ lets-pass rs (o .1)
+lets-pass (r ∷ rs) o = row-passes (r .number) (r .place) (firstOf rs) (o .0) ∙ lets-pass rs (o .1)
 
 -- A REFUSAL IS GIVEN EXACTLY UNDER ITS CONDITION: its row applies and no row before it does
-pub exact : (rs : List Rule) (k p : ℕ) → firstOf rs ≡ refused k p → First rs k p
+pub exact : (rs : List Rule) (k p : ℕ) → firstOf rs ≡ refused k p → FirstRow rs k p
 exact [] k p e = let z : _≡_ {A = ℕ} 0 1 = cc in absurd (omega arith)
 exact (r ∷ rs) k p e = row r rs k p (r .when) refl (exact rs k p) e
   where
-    row : (r : Rule) (rs : List Rule) (k p : ℕ) (t : Bool) → r .when ≡ t → (firstOf rs ≡ refused k p → First rs k p) → cond t (refused (r .number) (r .place)) (firstOf rs) ≡ refused k p → First (r ∷ rs) k p
+    row : (r : Rule) (rs : List Rule) (k p : ℕ) (t : Bool) → r .when ≡ t → (firstOf rs ≡ refused k p → FirstRow rs k p)
+        → cond t (refused (r .number) (r .place)) (firstOf rs) ≡ refused k p → FirstRow (r ∷ rs) k p
     row r rs k p true w f e =
         let en : r .number ≡ k = cc in
         let ep : r .place ≡ p = cc in
         rw (← en, ← ep) (here w)
     row r rs k p false w f e = later w (f e)
 
-pub given : {rs : List Rule} {k p : ℕ} → First rs k p → firstOf rs ≡ refused k p
-given (here {r = r} {rs = rs} w) = ap (λ (t : Bool). cond t (refused (r .number) (r .place)) (firstOf rs)) w
-given (later {r = r} {rs = rs} w f) = ap (λ (t : Bool). cond t (refused (r .number) (r .place)) (firstOf rs)) w ∙ given f
+pub given : {rs : List Rule} {k p : ℕ} → FirstRow rs k p → firstOf rs ≡ refused k p
+given (here {r = r} {rs = rs} w) = row-applies (r .number) (r .place) (firstOf rs) w
+given (later {r = r} {rs = rs} w f) = row-passes (r .number) (r .place) (firstOf rs) w ∙ given f

@@ -1,44 +1,40 @@
 -- What the table admits, said of nodes: an admitted listing's nodes are valid, and the bytes of valid nodes are admitted.
 use mathlib.Core.Path.{_≡_, refl, sym, ap, _∙_, subst}
 use mathlib.Core.Logic.{_≢_, _⊎_, inl, inr}
-use mathlib.Core.Bool.{true, false, not, _&&_, _||_}
+use mathlib.Core.Bool.{Bool, true, false, not, _&&_, _||_}
 use mathlib.Core.List.{List}
 use Prim.Native.Nat.{ℕ, _≤_, _<_}
 use native.Mathlib.Omega.{arith}
 use lib.ListN.{length}
-use lib.Dec.{eqb, ltb, leb}
-use borrow.Author.Tests.{ltb-true, ltb-false, leb-false, eqb-true, eqb-false, not-false, lt-ltb, le-ltb, lt-leb, eq-eqb, ne-eqb}
+use lib.Dec.{T, eqb, ltb, leb}
+use borrow.Author.Tests.{ltb-true, leb-false, eqb-true, eqb-false, not-false, lt-ltb, lt-leb, eq-eqb, ne-eqb}
 use Rattle.listing.specs.Limits.{ROUTINES, NODES}
+use Rattle.listing.specs.Kinds.{isVersion, kindsOf, hasNoLocation}
 use Rattle.listing.specs.Node.{Node, none, Listing, node}
-use Rattle.listing.specs.Bytes.{countF, countN, nodeAt, nodesOf, bytesOf}
+use Rattle.listing.specs.Bytes.{versionOf, countF, countN, nodeAt, nodesOf, bytesOf}
 use Rattle.listing.specs.Rules.{NoneApplies}
 use Rattle.listing.specs.Read.{wrongRoutine, wrongKind, wrongLocation, astray, wrongSuccessor, wrongOrder, nodeRules, Admitted}
 use Rattle.listing.specs.Valid.{Headed, Goes, NodeOk, Valid}
 use Rattle.listing.proofs.Nodes.{nodes-length, nodes-at}
-use Rattle.listing.proofs.Tests.{holds?, or-neither, neither-or, and-lacks, lacks-and}
+use Rattle.listing.proofs.Bools.{bool?, or-neither, neither-or, and-lacks, lacks-and, yes-holds, no-fails}
 use Rattle.listing.proofs.Rows.{rows-clear, clear-rows}
 use Rattle.listing.proofs.Headed.{headed-clear}
-use Rattle.listing.proofs.RoundTrip.{bytes-length, read-countF, read-written}
+use Rattle.listing.proofs.RoundTrip.{bytes-length, read-version, read-countF, read-written}
 
 -- 10
-location-right : (k l : ℕ) → ((eqb k 0 || eqb k 4) && not (eqb l 0)) ≡ false → (k ≡ 0) ⊎ (k ≡ 4) → l ≡ 0
-location-right k l e = go (and-lacks (eqb k 0 || eqb k 4) (not (eqb l 0)) e)
+location-right : (k l : ℕ) → (hasNoLocation k && not (eqb l 0)) ≡ false → T (hasNoLocation k) → l ≡ 0
+location-right k l e t = go (and-lacks (hasNoLocation k) (not (eqb l 0)) e)
   where
-    go : ((eqb k 0 || eqb k 4) ≡ false) ⊎ (not (eqb l 0) ≡ false) → (k ≡ 0) ⊎ (k ≡ 4) → l ≡ 0
-    go (inl o) (inl z) = absurd (eqb-false k 0 (or-neither (eqb k 0) (eqb k 4) o .0) z)
-    go (inl o) (inr z) = absurd (eqb-false k 4 (or-neither (eqb k 0) (eqb k 4) o .1) z)
-    go (inr o) z = eqb-true l 0 (not-false (eqb l 0) o)
+    go : (hasNoLocation k ≡ false) ⊎ (not (eqb l 0) ≡ false) → l ≡ 0
+    go (inl o) = absurd (no-fails {b = hasNoLocation k} o refl t)
+    go (inr o) = eqb-true l 0 (not-false (eqb l 0) o)
 
-right-location : (k l : ℕ) → ((k ≡ 0) ⊎ (k ≡ 4) → l ≡ 0) → ((eqb k 0 || eqb k 4) && not (eqb l 0)) ≡ false
-right-location k l f = lacks-and (eqb k 0 || eqb k 4) (not (eqb l 0)) (go (holds? (eqb l 0)))
+right-location : (k l : ℕ) → (T (hasNoLocation k) → l ≡ 0) → (hasNoLocation k && not (eqb l 0)) ≡ false
+right-location k l f = lacks-and (hasNoLocation k) (not (eqb l 0)) (go (bool? (hasNoLocation k)))
   where
-    go : (eqb l 0 ≡ true) ⊎ (eqb l 0 ≡ false) → ((eqb k 0 || eqb k 4) ≡ false) ⊎ (not (eqb l 0) ≡ false)
-    go (inl e) = inr (ap not e)
-    go (inr e) =
-        inl
-        (neither-or (eqb k 0) (eqb k 4)
-        (ne-eqb k 0 (λ z. eqb-false l 0 e (f (inl z))))
-        (ne-eqb k 4 (λ z. eqb-false l 0 e (f (inr z)))))
+    go : (hasNoLocation k ≡ true) ⊎ (hasNoLocation k ≡ false) → (hasNoLocation k ≡ false) ⊎ (not (eqb l 0) ≡ false)
+    go (inl e) = inr (ap not (eq-eqb l 0 (f (yes-holds {b = hasNoLocation k} e refl))))
+    go (inr e) = inl e
 
 -- 12
 order-right : (x y : ℕ) → (not (eqb y none) && (eqb x none || leb y x)) ≡ false → (y ≡ none) ⊎ ((x ≢ none) × (x < y))
@@ -50,83 +46,99 @@ order-right x y e = go (and-lacks (not (eqb y none)) (eqb x none || leb y x) e)
 
 right-order : (x y : ℕ) → (y ≡ none) ⊎ ((x ≢ none) × (x < y)) → (not (eqb y none) && (eqb x none || leb y x)) ≡ false
 right-order x y (inl e) = lacks-and (not (eqb y none)) (eqb x none || leb y x) (inl (ap not (eq-eqb y none e)))
-right-order x y (inr h) = lacks-and (not (eqb y none)) (eqb x none || leb y x) (inr (neither-or (eqb x none) (leb y x) (ne-eqb x none (h .0)) (lt-leb y x (h .1))))
+right-order x y (inr h) =
+    lacks-and (not (eqb y none)) (eqb x none || leb y x)
+    (inr (neither-or (eqb x none) (leb y x) (ne-eqb x none (h .0)) (lt-leb y x (h .1))))
 
 module _ (s : List ℕ) where
   same-routine : (x : ℕ) → x < countN s → node (nodesOf s) x .routine ≡ nodeAt s x .routine
   same-routine x h = ap (λ (n : Node). n .routine) (nodes-at s x h)
 
-  -- 11
+  -- 11: a successor that is some, is "below N", and is in node i's routine
+  abbrev some : ℕ → Bool
+  some x = not (eqb x none)
+
+  abbrev beyond : ℕ → Bool
+  beyond x = not (ltb x (countN s))
+
+  abbrev elsewhere : ℕ → ℕ → Bool
+  elsewhere i x = not (eqb (nodeAt s x .routine) (nodeAt s i .routine))
+
   straight : (i x : ℕ) → astray s i x ≡ false → Goes (nodesOf s) (nodeAt s i) x
   unfolding astray
-  straight i x e = go (and-lacks (not (eqb x none)) (not (ltb x (countN s)) || not (eqb (nodeAt s x .routine) (nodeAt s i .routine))) e)
+  straight i x e = go (and-lacks (some x) (beyond x || elsewhere i x) e)
     where
-      go : (not (eqb x none) ≡ false) ⊎ ((not (ltb x (countN s)) || not (eqb (nodeAt s x .routine) (nodeAt s i .routine))) ≡ false) → Goes (nodesOf s) (nodeAt s i) x
+      go : (some x ≡ false) ⊎ ((beyond x || elsewhere i x) ≡ false) → Goes (nodesOf s) (nodeAt s i) x
       go (inl o) = inl (eqb-true x none (not-false (eqb x none) o))
       go (inr o) =
-          let t = or-neither (not (ltb x (countN s))) (not (eqb (nodeAt s x .routine) (nodeAt s i .routine))) o in
+          let t = or-neither (beyond x) (elsewhere i x) o in
           let h : x < countN s = ltb-true x (countN s) (not-false _ (t .0)) in
           inr (omega (arith, nodes-length s), same-routine x h ∙ eqb-true (nodeAt s x .routine) (nodeAt s i .routine) (not-false _ (t .1)))
 
   goes : (i x : ℕ) → Goes (nodesOf s) (nodeAt s i) x → astray s i x ≡ false
   unfolding astray
-  goes i x (inl e) = lacks-and (not (eqb x none)) (not (ltb x (countN s)) || not (eqb (nodeAt s x .routine) (nodeAt s i .routine))) (inl (ap not (eq-eqb x none e)))
+  goes i x (inl e) = lacks-and (some x) (beyond x || elsewhere i x) (inl (ap not (eq-eqb x none e)))
   goes i x (inr g) =
       let h : x < countN s = omega (arith, nodes-length s, g .0) in
-      lacks-and (not (eqb x none)) (not (ltb x (countN s)) || not (eqb (nodeAt s x .routine) (nodeAt s i .routine)))
-      (inr
-      (neither-or (not (ltb x (countN s))) (not (eqb (nodeAt s x .routine) (nodeAt s i .routine)))
-      (ap not (lt-ltb x (countN s) h))
-      (ap not (eq-eqb (nodeAt s x .routine) (nodeAt s i .routine) (sym (same-routine x h) ∙ g .1)))))
+      let here = eq-eqb (nodeAt s x .routine) (nodeAt s i .routine) (sym (same-routine x h) ∙ g .1) in
+      lacks-and (some x) (beyond x || elsewhere i x)
+      (inr (neither-or (beyond x) (elsewhere i x) (ap not (lt-ltb x (countN s) h)) (ap not here)))
 
-  clear-ok : (i : ℕ) → NoneApplies (nodeRules s i) → NodeOk (countF s) (nodesOf s) (nodeAt s i)
+  clear-ok : (i : ℕ) → NoneApplies (nodeRules s i) → NodeOk (versionOf s) (countF s) (nodesOf s) (nodeAt s i)
   unfolding nodeRules wrongRoutine wrongKind wrongLocation wrongSuccessor wrongOrder
   clear-ok i o =
       let t = or-neither (astray s i (nodeAt s i .first)) (astray s i (nodeAt s i .second)) (o .1 .1 .1 .0) in
       record {
         routine = ltb-true (nodeAt s i .routine) (countF s) (not-false _ (o .0));
-        kind = ltb-false 4 (nodeAt s i .kind) (o .1 .0);
+        kind = leb-false (kindsOf (versionOf s)) (nodeAt s i .kind) (o .1 .0);
         location = location-right (nodeAt s i .kind) (nodeAt s i .location) (o .1 .1 .0);
         first = straight i (nodeAt s i .first) (t .0);
         second = straight i (nodeAt s i .second) (t .1);
         order = order-right (nodeAt s i .first) (nodeAt s i .second) (o .1 .1 .1 .1 .0);
       }
 
-  ok-clear : (i : ℕ) → NodeOk (countF s) (nodesOf s) (nodeAt s i) → NoneApplies (nodeRules s i)
+  ok-clear : (i : ℕ) → NodeOk (versionOf s) (countF s) (nodesOf s) (nodeAt s i) → NoneApplies (nodeRules s i)
   unfolding nodeRules wrongRoutine wrongKind wrongLocation wrongSuccessor wrongOrder
-  ok-clear i ok = (
-    ap not (lt-ltb (nodeAt s i .routine) (countF s) (ok .routine)),
-    (
-      le-ltb 4 (nodeAt s i .kind) (ok .kind),
-      (
-        right-location (nodeAt s i .kind) (nodeAt s i .location) (ok .location),
-        (
-          neither-or (astray s i (nodeAt s i .first)) (astray s i (nodeAt s i .second)) (goes i (nodeAt s i .first) (ok .first)) (goes i (nodeAt s i .second) (ok .second)),
-          (right-order (nodeAt s i .first) (nodeAt s i .second) (ok .order), tt),
-        ),
-      ),
-    ),
-  )
+  ok-clear i ok =
+      let n = nodeAt s i in
+      let routine = ap not (lt-ltb (n .routine) (countF s) (ok .routine)) in
+      let kind = lt-leb (kindsOf (versionOf s)) (n .kind) (ok .kind) in
+      let location = right-location (n .kind) (n .location) (ok .location) in
+      let first = goes i (n .first) (ok .first) in
+      let second = goes i (n .second) (ok .second) in
+      let successor = neither-or (astray s i (n .first)) (astray s i (n .second)) first second in
+      (routine, (kind, (location, (successor, (right-order (n .first) (n .second) (ok .order), tt)))))
 
   -- AN ADMITTED LISTING'S NODES ARE VALID
-  pub admitted-valid : Admitted s → Valid (countF s) (nodesOf s)
+  pub admitted-valid : Admitted s → Valid (versionOf s) (countF s) (nodesOf s)
   admitted-valid e a h =
       let k : a < countN s = omega (arith, nodes-length s) in
-      subst (NodeOk (countF s) (nodesOf s)) (sym (nodes-at s a k)) (clear-ok a (rows-clear s e .1 a k))
+      subst (NodeOk (versionOf s) (countF s) (nodesOf s)) (sym (nodes-at s a k)) (clear-ok a (rows-clear s e .1 a k))
 
   -- and conversely, under a heading that is right
-  pub headed-admitted : Headed s → Valid (countF s) (nodesOf s) → Admitted s
+  pub headed-admitted : Headed s → Valid (versionOf s) (countF s) (nodesOf s) → Admitted s
   headed-admitted h v =
       clear-rows s (headed-clear s h)
-      (λ a k. ok-clear a (subst (NodeOk (countF s) (nodesOf s)) (nodes-at s a k) (v a (omega (arith, nodes-length s)))))
+      (λ a k. ok-clear a (subst (NodeOk (versionOf s) (countF s) (nodesOf s)) (nodes-at s a k) (v a (omega (arith, nodes-length s)))))
 
-written-headed : (f : ℕ) (L : Listing) → 1 ≤ f → f ≤ ROUTINES → length L ≤ NODES → Headed (bytesOf f L)
-unfolding bytesOf
-written-headed f L low high few =
-    record { long = omega arith; mark₀ = refl; mark₁ = refl; mark₂ = refl; version = refl; some = low; routines = high; nodes = few; exact = bytes-length f L }
+module _ (v f : ℕ) (L : Listing) (is : T (isVersion v)) (low : 1 ≤ f) (high : f ≤ ROUTINES) (few : length L ≤ NODES) where
+  written-headed : Headed (bytesOf v f L)
+  unfolding bytesOf
+  written-headed = record {
+    long = omega arith;
+    mark₀ = refl;
+    mark₁ = refl;
+    mark₂ = refl;
+    version = subst (λ (w : ℕ). T (isVersion w)) (sym (read-version v f L)) is;
+    some = low;
+    routines = high;
+    nodes = few;
+    exact = bytes-length v f L;
+  }
 
--- THE BYTES OF VALID NODES ARE ADMITTED
-pub valid-admitted : (f : ℕ) (L : Listing) → 1 ≤ f → f ≤ ROUTINES → length L ≤ NODES → Valid f L → Admitted (bytesOf f L)
-valid-admitted f L low high few v =
-    headed-admitted (bytesOf f L) (written-headed f L low high few)
-    (subst (λ (g : ℕ). Valid g (nodesOf (bytesOf f L))) (sym (read-countF f L)) (subst (Valid f) (sym (read-written f L)) v))
+  -- THE BYTES OF VALID NODES ARE ADMITTED
+  pub valid-admitted : Valid v f L → Admitted (bytesOf v f L)
+  valid-admitted valid =
+      let s = bytesOf v f L in
+      headed-admitted s written-headed
+      (rw (read-version v f L, read-countF v f L, read-written v f L) valid)

@@ -1,8 +1,8 @@
--- A listing's bytes, version 1: where its numbers stand, the nodes that they hold, and the bytes of given nodes.
+-- A listing's bytes: where its numbers stand, the nodes that they hold, and the bytes of given nodes.
 use mathlib.Core.List.{List, [], _∷_, _++_}
-use Prim.Native.Nat.{ℕ, zero, suc, _+_, _*_, _/_, _%_, _≤_}
+use Prim.Native.Nat.{ℕ, zero, suc, _+_, _*_, _/_, _%_}
 use lib.ListN.{length, getD}
-use Rattle.listing.specs.Limits.{NODES, HEADING, RECORD}
+use Rattle.listing.specs.Limits.{HEADING, RECORD}
 use Rattle.listing.specs.Node.{Node, Listing}
 
 -- byte i
@@ -52,9 +52,9 @@ nodesFrom s o (suc k) = nodeFrom s o ∷ nodesFrom s (o + RECORD) k
 unfoldable pub nodesOf : List ℕ → Listing
 nodesOf s = nodesFrom s HEADING (countN s)
 
--- "the mark `ORD` (4F 52 44), a 16-bit version (1), the routine count F, the node count N"
-abbrev pub headingBytes : ℕ → ℕ → List ℕ
-headingBytes f n = 0x4F ∷ 0x52 ∷ 0x44 ∷ 1 ∷ 0 ∷ f ∷ n ∷ []
+-- "the mark `ORD` (4F 52 44), a 16-bit version, the routine count F, the node count N"
+abbrev pub headingBytes : ℕ → ℕ → ℕ → List ℕ
+headingBytes v f n = 0x4F ∷ 0x52 ∷ 0x44 ∷ v % 256 ∷ v / 256 ∷ f ∷ n ∷ []
 
 -- a node's six bytes
 abbrev pub nodeBytes : Node → List ℕ
@@ -64,6 +64,6 @@ abbrev pub nodesBytes : Listing → List ℕ
 nodesBytes [] = []
 nodesBytes (n ∷ ns) = nodeBytes n ++ nodesBytes ns
 
--- the bytes of a listing of f routines
-unfoldable pub bytesOf : ℕ → Listing → List ℕ
-bytesOf f L = headingBytes f (length L) ++ nodesBytes L
+-- the bytes of a listing of version v and f routines
+unfoldable pub bytesOf : ℕ → ℕ → Listing → List ℕ
+bytesOf v f L = headingBytes v f (length L) ++ nodesBytes L

@@ -1,4 +1,5 @@
 pub mod Limits
+pub mod Kinds
 pub mod Node
 pub mod Bytes
 pub mod Rules

@@ -6,6 +6,7 @@ use Prim.Native.Nat.{ℕ, zero, suc}
 use lib.ListN.{length}
 use lib.Dec.{eqb, ltb, leb}
 use Rattle.listing.specs.Limits.{ROUTINES, NODES, HEADING}
+use Rattle.listing.specs.Kinds.{isVersion, kindsOf, hasNoLocation}
 use Rattle.listing.specs.Node.{none}
 use Rattle.listing.specs.Bytes.{byte, versionOf, countF, countN, recordAt, nodeAt}
 use Rattle.listing.specs.Rules.{Rule, rule, Refusal, passed, refused, firstOf}
@@ -25,7 +26,7 @@ unfoldable pub headingRules : List ℕ → List Rule
 headingRules s =
     rule (ltb (length s) HEADING) 2 0
     ∷ rule (wrongMark s) 3 0
-    ∷ rule (not (eqb (versionOf s) 1)) 4 0
+    ∷ rule (not (isVersion (versionOf s))) 4 0
     ∷ rule (wrongF s) 5 0
     ∷ rule (ltb NODES (countN s)) 6 0
     ∷ rule (not (eqb (length s) (recordAt (countN s)))) 7 0
@@ -37,11 +38,11 @@ wrongRoutine s i = not (ltb (nodeAt s i .routine) (countF s))
 
 -- 9: "kind over 4"
 unfoldable pub wrongKind : List ℕ → ℕ → Bool
-wrongKind s i = ltb 4 (nodeAt s i .kind)
+wrongKind s i = leb (kindsOf (versionOf s)) (nodeAt s i .kind)
 
 -- 10: "kind 0 or 4 with a location other than 0"
 unfoldable pub wrongLocation : List ℕ → ℕ → Bool
-wrongLocation s i = (eqb (nodeAt s i .kind) 0 || eqb (nodeAt s i .kind) 4) && not (eqb (nodeAt s i .location) 0)
+wrongLocation s i = hasNoLocation (nodeAt s i .kind) && not (eqb (nodeAt s i .location) 0)
 
 -- 11: the successor x of node i is "neither 255 nor below N, or in another routine"
 unfoldable pub astray : List ℕ → ℕ → ℕ → Bool

@@ -2,7 +2,7 @@
 use mathlib.Core.Path.{_≡_}
 use mathlib.Core.Bool.{Bool, true, false, cond}
 use mathlib.Core.List.{List, [], _∷_}
-use Prim.Native.Nat.{ℕ, zero, suc}
+use Prim.Native.Nat.{ℕ}
 
 -- a row: "Refused because", "No." and "Place"
 pub record Rule : Type 0 where
@@ -24,9 +24,9 @@ firstOf [] = passed
 firstOf (r ∷ rs) = cond (r .when) (refused (r .number) (r .place)) (firstOf rs)
 
 -- "Each refusal is given exactly under its condition": a row of number k and place p applies, and no row before it does
-pub data First : List Rule → ℕ → ℕ → Type 0 where
-  here : {r : Rule} {rs : List Rule} → r .when ≡ true → First (r ∷ rs) (r .number) (r .place)
-  later : {r : Rule} {rs : List Rule} {k p : ℕ} → r .when ≡ false → First rs k p → First (r ∷ rs) k p
+pub data FirstRow : List Rule → ℕ → ℕ → Type 0 where
+  here : {r : Rule} {rs : List Rule} → r .when ≡ true → FirstRow (r ∷ rs) (r .number) (r .place)
+  later : {r : Rule} {rs : List Rule} {k p : ℕ} → r .when ≡ false → FirstRow rs k p → FirstRow (r ∷ rs) k p
 
 -- no row applies
 abbrev pub NoneApplies : List Rule → Type 0

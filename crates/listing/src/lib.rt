@@ -1,4 +1,4 @@
-// A listing of thread routines, version 1: its limits, the fields of its records, its reader, and the writer of its parts.
+// A listing of thread routines: its limits, versions and kinds, the fields of its records, its reader, and the writer of its parts.
 mod rules;
 
 ghost use mathlib.Core.Path.{_≡_};
@@ -6,12 +6,14 @@ ghost use Prim.Native.Nat.{_+_, _*_, _<_, _≤_};
 ghost use lib.ListN.{length};
 ghost use lib.Seq.{sets};
 ghost use Rattle.listing.specs.Limits.{NODES, HEADING};
+ghost use Rattle.listing.specs.Kinds.{isVersion, kindsOf, hasNoLocation};
 ghost use Rattle.listing.specs.Node.{node};
-ghost use Rattle.listing.specs.Bytes.{countF, countN, recordAt, nodesOf, headingBytes, nodeBytes};
+ghost use Rattle.listing.specs.Bytes.{versionOf, countF, countN, recordAt, nodesOf, headingBytes, nodeBytes};
 ghost use Rattle.listing.specs.Inner.Whole.{Whole};
+ghost use Rattle.listing.specs.Answer.{filled};
 ghost use Rattle.listing.specs.Read.{readSays, readOf};
 
-// A listing that was read: its counts. The four limits are its own.
+// A listing that was read: its counts. The limits are its own.
 pub struct Listing {
     pub nodes: usize,
     pub routines: usize,
@@ -25,7 +27,23 @@ impl Listing {
     pub const HEADING: usize = 7;
 
     pub const RECORD: usize = 6;
+
+    // The bytes of the longest: its heading, and a record for every node.
+    pub const LONGEST: usize = Listing::HEADING + Listing::RECORD * Listing::NODES;
 }
+
+// The kinds of a node, and how many there are.
+pub const PLAIN: u8 = 0;
+
+pub const READ: u8 = 1;
+
+pub const WRITE: u8 = 2;
+
+pub const RMW: u8 = 3;
+
+pub const FENCE: u8 = 4;
+
+pub const KINDS: usize = 5;
 
 // A successor that is none.
 pub const NONE: u8 = 255;
@@ -40,6 +58,38 @@ pub fn wide(b: u8) -> usize
     ensures { λ r. ⌜ (r ≡ b) × (r < 256) ⌝ }
 {
     b as usize
+}
+
+// Whether there is such a version.
+pub fn is_version(version: usize) -> bool
+    ensures { λ r. ⌜ r ≡ isVersion version ⌝ }
+{
+    version == 1
+}
+
+// How many kinds, from 0 on, a version admits.
+pub fn kinds_of(version: usize) -> usize
+    ensures { λ r. ⌜ r ≡ kindsOf version ⌝ }
+{
+    KINDS
+}
+
+// Whether a node of this kind has location 0, which means nothing.
+pub fn has_no_location(kind: u8) -> bool
+    ensures { λ r. ⌜ r ≡ hasNoLocation kind ⌝ }
+{
+    if kind == PLAIN {
+        return true;
+    }
+    kind == FENCE
+}
+
+// The heading's version.
+pub fn version(bytes: &[u8]) -> usize
+    requires { ⌜ HEADING ≤ length (now bytes) ⌝ }
+    ensures { λ r. ⌜ (r ≡ versionOf (now (bytes .entry))) × (r < 65536) ⌝ }
+{
+    wide(bytes[3]) + 256 * wide(bytes[4])
 }
 
 // How many nodes there are.
@@ -116,16 +166,27 @@ pub fn read(bytes: &[u8]) -> ReadAnswer
     ReadAnswer::Good(Listing { nodes, routines })
 }
 
-// The heading of a listing of f routines and n nodes.
-pub fn put_heading(out: &mut [u8], f: u8, n: u8)
-    requires { ⌜ HEADING ≤ length (now out) ⌝ }
-    ensures { λ _. ⌜ now (out .exit) ≡ sets (now (out .entry)) 0 (headingBytes f n) ⌝ }
+// Copies `from` to the start of `to`.
+pub fn copy(from: &[u8], to: &mut [u8])
+    requires { ⌜ length (now from) ≤ length (now to) ⌝ }
+    ensures { λ _. ⌜ now (to .exit) ≡ filled (now (from .entry)) (now (to .entry)) ⌝ }
+{
+    let n = from.len();
+    for i in 0..n {
+        to[i] = from[i];
+    }
+}
+
+// The heading of a listing of that version, of f routines and n nodes.
+pub fn put_heading(out: &mut [u8], version: usize, f: u8, n: u8)
+    requires { ⌜ (version < 65536) × (HEADING ≤ length (now out)) ⌝ }
+    ensures { λ _. ⌜ now (out .exit) ≡ sets (now (out .entry)) 0 (headingBytes version f n) ⌝ }
 {
     out[0] = b'O';
     out[1] = b'R';
     out[2] = b'D';
-    out[3] = 1;
-    out[4] = 0;
+    out[3] = (version % 256) as u8;
+    out[4] = (version / 256) as u8;
     out[5] = f;
     out[6] = n;
 }

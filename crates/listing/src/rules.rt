@@ -3,7 +3,7 @@ ghost use mathlib.Core.Path.{_≡_};
 ghost use Prim.Native.Nat.{_<_, _≤_};
 ghost use lib.ListN.{length};
 ghost use Rattle.listing.specs.Limits.{HEADING};
-ghost use Rattle.listing.specs.Bytes.{countN, versionOf};
+ghost use Rattle.listing.specs.Bytes.{countN};
 ghost use Rattle.listing.specs.Inner.Whole.{Whole};
 ghost use Rattle.listing.specs.Rules.{firstOf};
 ghost use Rattle.listing.specs.Inner.Numbered.{numbered};
@@ -21,12 +21,16 @@ ghost use Rattle.listing.specs.Read.{
 use crate::Listing;
 use crate::NONE;
 use crate::first_at;
+use crate::has_no_location;
+use crate::is_version;
 use crate::kind_at;
+use crate::kinds_of;
 use crate::location_at;
 use crate::node_count;
 use crate::routine_at;
 use crate::routine_count;
 use crate::second_at;
+use crate::version;
 use crate::wide;
 
 // Rule 3.
@@ -43,13 +47,6 @@ fn wrong_mark(bytes: &[u8]) -> bool
     bytes[2] != b'D'
 }
 
-fn version(bytes: &[u8]) -> usize
-    requires { ⌜ HEADING ≤ length (now bytes) ⌝ }
-    ensures { λ r. ⌜ r ≡ versionOf (now (bytes .entry)) ⌝ }
-{
-    wide(bytes[3]) + 256 * wide(bytes[4])
-}
-
 // The number of the first rule of the heading that refuses, 0 where none does.
 pub fn heading(bytes: &[u8]) -> u8
     ensures { λ r. ⌜ firstOf (headingRules (now (bytes .entry))) ≡ numbered r 0 ⌝ }
@@ -60,7 +57,7 @@ pub fn heading(bytes: &[u8]) -> u8
     if wrong_mark(bytes) {
         return 3;
     }
-    if version(bytes) != 1 {
+    if !is_version(version(bytes)) {
         return 4;
     }
     let f = wide(bytes[5]);
@@ -93,7 +90,7 @@ fn wrong_kind(bytes: &[u8], i: usize) -> bool
     requires { ⌜ Whole (now bytes) × (i < countN (now bytes)) ⌝ }
     ensures { λ r. ⌜ r ≡ wrongKind (now (bytes .entry)) i ⌝ }
 {
-    4 < kind_at(bytes, i)
+    kinds_of(version(bytes)) <= wide(kind_at(bytes, i))
 }
 
 // Rule 10.
@@ -101,13 +98,8 @@ fn wrong_location(bytes: &[u8], i: usize) -> bool
     requires { ⌜ Whole (now bytes) × (i < countN (now bytes)) ⌝ }
     ensures { λ r. ⌜ r ≡ wrongLocation (now (bytes .entry)) i ⌝ }
 {
-    let kind = kind_at(bytes, i);
-    let location = location_at(bytes, i);
-    if kind == 0 {
-        return location != 0;
-    }
-    if kind == 4 {
-        return location != 0;
+    if has_no_location(kind_at(bytes, i)) {
+        return location_at(bytes, i) != 0;
     }
     false
 }

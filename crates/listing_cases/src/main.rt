@@ -7,10 +7,8 @@ ghost use Rattle.listing.specs.Bytes.{recordAt};
 use listing::Listing;
 use listing::ReadAnswer;
 
-// The bytes of the longest listing, and of one with a node more.
-const LONGEST: usize = Listing::HEADING + Listing::RECORD * Listing::NODES;
-
-const TOO_LONG: usize = LONGEST + Listing::RECORD;
+// The bytes of a listing with a node too many.
+const TOO_LONG: usize = Listing::LONGEST + Listing::RECORD;
 
 fn line(word: &[u8], a: usize, b: usize) {
     io::write_all(1, word);
@@ -133,14 +131,22 @@ fn two_records() {
     );
 }
 
-// Plain nodes of one routine, as many as a listing may have, under a heading that says n.
+// Plain nodes of one routine, as many as a listing may have, under a heading of version 1 that says n.
 fn put_plain(out: &mut [u8; TOO_LONG], n: u8)
     ensures { λ _. ⌜ recordAt (NODES + 1) ≡ length (now (out .exit)) ⌝ }
 {
-    listing::put_heading(&mut *out, 1, n);
+    listing::put_heading(&mut *out, 1, 1, n);
     let mut i: usize = 0;
     while i < Listing::NODES {
-        listing::put_record(&mut *out, i, 0, 0, 0, listing::NONE, listing::NONE);
+        listing::put_record(
+            &mut *out,
+            i,
+            0,
+            listing::PLAIN,
+            0,
+            listing::NONE,
+            listing::NONE,
+        );
         i += 1;
     }
 }
@@ -148,7 +154,7 @@ fn put_plain(out: &mut [u8; TOO_LONG], n: u8)
 fn sizes() {
     let mut bytes = [0u8; TOO_LONG];
     put_plain(&mut bytes, 128);
-    case(b"128 nodes", &bytes[..LONGEST]);
+    case(b"128 nodes", &bytes[..Listing::LONGEST]);
     put_plain(&mut bytes, 129);
     case(b"129 nodes", &bytes);
 }

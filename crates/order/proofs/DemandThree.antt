@@ -7,11 +7,12 @@ use Rattle.listing.specs.Node.{Listing}
 use Rattle.order.specs.Rows.{All, In, Some, Row}
 use Rattle.order.specs.Walks.{kindAt, locAt}
 use Rattle.order.specs.Chains.{surely, SurelyMeet, Ends, IsPair, Joined, Chain}
-use Rattle.order.specs.Need.{bars, Barrier, Unbarred}
+use Rattle.order.specs.Need.{question, classAt, bars, Barrier, Unbarred}
 use Rattle.order.specs.Verdict.{Robust}
 use Rattle.order.specs.Steps.{Step, ends, Hop, Ring, InOrder, Free, Ordered}
-use Rattle.order.proofs.Bools.{T?}
+use Rattle.listing.proofs.Bools.{T?}
 use Rattle.order.proofs.Lists.{all-in, in-all}
+use Rattle.order.proofs.Mapped.{in-mapped}
 use Rattle.order.proofs.Shorten.{Turned, turn}
 use Rattle.order.proofs.Rounds.{shorten}
 
@@ -27,16 +28,16 @@ steps-pairs : (L : Listing) (ss : List (Step L)) → All (IsPair L) (map ends ss
 steps-pairs L [] = tt
 steps-pairs L (s ∷ ss) = (step-pair L s, steps-pairs L ss)
 
-all-map : (L : Listing) (p : Ends) (ss : List (Step L)) → All (λ x. x ≡ p) (map ends ss) → All (λ t. ends t ≡ p) ss
-all-map L p [] h = tt
-all-map L p (s ∷ ss) h = (h .0, all-map L p ss (h .1))
+-- a barrier is among the nodes inside
+abbrev Barred : ℕ → Listing → ℕ → ℕ → List ℕ → Type 0
+Barred q L a b xs = (c : ℕ) × In c xs × Barrier q L a b c
 
--- a barrier is among the nodes inside, or none is
-barred? : (q : ℕ) (L : Listing) (a b : ℕ) (xs : List ℕ) → ((c : ℕ) × In c xs × Barrier q L a b c) ⊎ Unbarred q L a b xs
+-- or none is
+barred? : (q : ℕ) (L : Listing) (a b : ℕ) (xs : List ℕ) → Barred q L a b xs ⊎ Unbarred q L a b xs
 barred? q L a b [] = inr tt
-barred? q L a b (x ∷ xs) = go (T? (bars q (kindAt L a) (kindAt L b) (kindAt L x))) (barred? q L a b xs)
+barred? q L a b (x ∷ xs) = go (T? (bars (question q) (classAt L a b) (kindAt L x))) (barred? q L a b xs)
   where
-    go : Dec (Barrier q L a b x) → ((c : ℕ) × In c xs × Barrier q L a b c) ⊎ Unbarred q L a b xs → ((c : ℕ) × In c (x ∷ xs) × Barrier q L a b c) ⊎ Unbarred q L a b (x ∷ xs)
+    go : Dec (Barrier q L a b x) → Barred q L a b xs ⊎ Unbarred q L a b xs → Barred q L a b (x ∷ xs) ⊎ Unbarred q L a b (x ∷ xs)
     go (yes t) r = inl (x, inl refl, t)
     go (no n) (inl r) = inl (r .0, inr (r .1), r .2)
     go (no n) (inr r) = inr (n, r)
@@ -45,15 +46,15 @@ barred? q L a b (x ∷ xs) = go (T? (bars q (kindAt L a) (kindAt L b) (kindAt L 
 pub on-chain : (L : Listing) (s : Step L) (ss : List (Step L)) → Ring L s ss → (t : Step L) → In t (s ∷ ss) → (rest : List Ends) × Chain L (ends t) rest
 on-chain L s ss g t i =
     shorten L (ends t) (map ends (u .rest)) (step-pair L t, steps-pairs L (u .rest))
-    (ends-row L t (u .rest) t (u .row)) (λ h. g .several (same (all-map L (ends t) (u .rest) h)))
+    (ends-row L t (u .rest) t (u .row)) (λ h. g .several (same h))
   where
     u : Turned (Hop L) s ss t
     u = turn (Hop L) s ss t (g .closed) i
 
-    is-t : All (λ x. ends x ≡ ends t) (u .rest) → (x : Step L) → In x (s ∷ ss) → ends x ≡ ends t
-    is-t h x j = all-in (λ x. ends x ≡ ends t) (t ∷ u .rest) (refl, h) x (u .all x j)
+    is-t : All (λ y. y ≡ ends t) (map ends (u .rest)) → (x : Step L) → In x (s ∷ ss) → ends x ≡ ends t
+    is-t h x j = all-in (λ y. y ≡ ends t) (map ends (t ∷ u .rest)) (refl, h) (ends x) (in-mapped ends (t ∷ u .rest) x (u .all x j))
 
-    same : All (λ x. ends x ≡ ends t) (u .rest) → All (λ x. ends x ≡ ends s) ss
+    same : All (λ y. y ≡ ends t) (map ends (u .rest)) → All (λ x. ends x ≡ ends s) ss
     same h = in-all (λ x. ends x ≡ ends s) ss (λ x j. is-t h x (inr j) ∙ sym (is-t h s (inl refl)))
 
 pub robust-ordered : (q : ℕ) (L : Listing) → Robust q L → Ordered q L
@@ -62,7 +63,8 @@ robust-ordered q L h s ss g = in-all (λ t. InOrder q L t ⊎ Free q L t) (s ∷
     each : (t : Step L) → In t (s ∷ ss) → InOrder q L t ⊎ Free q L t
     each t i = go (T? (surely (locAt L (t .from)) (locAt L (t .to)))) (barred? q L (t .from) (t .to) (t .inside))
       where
-        go : Dec (SurelyMeet L (t .from) (t .to)) → ((c : ℕ) × In c (t .inside) × Barrier q L (t .from) (t .to) c) ⊎ Unbarred q L (t .from) (t .to) (t .inside) → InOrder q L t ⊎ Free q L t
+        go : Dec (SurelyMeet L (t .from) (t .to)) → Barred q L (t .from) (t .to) (t .inside) ⊎ Unbarred q L (t .from) (t .to) (t .inside)
+            → InOrder q L t ⊎ Free q L t
         go (yes m) b = inl (inl m)
         go (no m) (inl b) = inl (inr b)
         go (no m) (inr b) = inr (λ n. h (t .from) (t .to) (record {
@@ -82,7 +84,7 @@ pair-steps L (p ∷ ps) h = pair-step L p (h .0) ∷ pair-steps L ps (h .1)
 
 pub ordered-robust : (q : ℕ) (L : Listing) → Ordered q L → Robust q L
 unfolding pair-step pair-steps
-ordered-robust q L h a b f = go (h s ss record { two = two (f .chain .0) (c .pairs .1) (c .enough); closed = closed s (f .chain .0) (c .pairs .1) refl-row; several = several } .0)
+ordered-robust q L h a b f = go (h s ss ring .0)
   where
     c : Chain L (a, b) (f .chain .0)
     c = f .chain .1
@@ -92,9 +94,6 @@ ordered-robust q L h a b f = go (h s ss record { two = two (f .chain .0) (c .pai
 
     ss : List (Step L)
     ss = pair-steps L (f .chain .0) (c .pairs .1)
-
-    refl-row : Row (Joined L) (ends s) (f .chain .0) (a, b)
-    refl-row = c .closed
 
     closed : (t : Step L) (ps : List Ends) (k : All (IsPair L) ps) → Row (Joined L) (ends t) ps (a, b) → Row (Hop L) t (pair-steps L ps k) s
     closed t [] k r = r
@@ -110,6 +109,9 @@ ordered-robust q L h a b f = go (h s ss record { two = two (f .chain .0) (c .pai
 
     several : All (λ t. ends t ≡ ends s) ss → ⊥
     several = first-differs (f .chain .0) (c .pairs .1) (c .enough) (c .different .0)
+
+    ring : Ring L s ss
+    ring = record { two = two (f .chain .0) (c .pairs .1) (c .enough); closed = closed s (f .chain .0) (c .pairs .1) (c .closed); several = several }
 
     go : InOrder q L s ⊎ Free q L s → ⊥
     go (inl (inl m)) = f .apart m

@@ -6,26 +6,18 @@ use Prim.Native.Nat.{_+_, _<_}
 use native.Mathlib.Omega.{arith}
 use lib.ListN.{length, length-append}
 use Rattle.order.specs.Rows.{In, Different, Some, Row}
-use Rattle.order.proofs.Lists.{in-right, in?, row-after}
+use Rattle.order.proofs.Lists.{in-right, cut, in?, row-after}
+use Rattle.order.proofs.Mapped.{mapped-in}
 
 module _ {A K : Type 0} (eqK : Discrete K) (key : A → K) where
-  in-keys : (xs : List A) (x : A) → In x xs → In (key x) (map key xs)
-  in-keys [] x i = i
-  in-keys (y ∷ ys) x (inl e) = inl (ap key e)
-  in-keys (y ∷ ys) x (inr i) = inr (in-keys ys x i)
-
-  -- entries with different keys are different
-  pub keys-different : (xs : List A) → Different (map key xs) → Different xs
-  keys-different [] d = tt
-  keys-different (x ∷ xs) d = (λ i. d .0 (in-keys xs x i), keys-different xs (d .1))
-
   abbrev KeyCut : List A → K → Type 0
   KeyCut xs k = (us : List A) × (w : A) × (vs : List A) × (xs ≡ us ++ (w ∷ vs)) × (k ≡ key w)
 
   key-cut : (xs : List A) (k : K) → In k (map key xs) → KeyCut xs k
-  key-cut [] k i = absurd i
-  key-cut (x ∷ xs) k (inl e) = ([], x, xs, refl, e)
-  key-cut (x ∷ xs) k (inr i) = let c = key-cut xs k i in (x ∷ c .0, c .1, c .2, ap (λ (v : List A). x ∷ v) (c .3), c .4)
+  key-cut xs k i =
+      let m = mapped-in key xs k i in
+      let c = cut xs (m .0) (m .1) in
+      (c .0, m .0, c .1, c .2, m .2)
 
   keys-right : (us vs : List A) → Different (map key (us ++ vs)) → Different (map key vs)
   keys-right [] vs d = d

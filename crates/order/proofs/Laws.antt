@@ -3,18 +3,19 @@ use mathlib.Core.Path.{_≡_, refl, sym, subst}
 use mathlib.Core.Logic.{_⊎_, inl, inr}
 use mathlib.Core.HLevel.{×-discrete}
 use mathlib.Core.List.{List, [], _∷_}
-use mathlib.Core.Bool.{_||_}
+use mathlib.Core.Bool.{Bool, true, false, cond, _||_}
 use Prim.Native.Nat.{ℕ, _≤_, _<_}
 use native.Mathlib.Decide.{decLt, ℕ-discrete}
 use native.Mathlib.Omega.{arith}
-use lib.Dec.{T, eqb, eqb→eq, eqb-refl}
+use lib.Dec.{T, eqb, eqb→eq}
 use lib.ListN.{length, List·getD-eq-default}
+use Rattle.listing.specs.Kinds.{PLAIN, FENCE}
 use Rattle.listing.specs.Node.{Node, blank, Listing, node}
 use Rattle.order.specs.Rows.{In, Some}
-use Rattle.order.specs.Walks.{locAt, isAccess, Access, Walk}
+use Rattle.order.specs.Walks.{locAt, isAccess, isFence, Access, Walk}
 use Rattle.order.specs.Chains.{isUnknown, overlap, MayMeet, Ends, Enough}
-use Rattle.order.specs.Need.{bars}
-use Rattle.order.proofs.Bools.{one, one→}
+use Rattle.order.specs.Need.{Question, scOnX86, scOnArmv7, x86OnArmv7, armv8OnArmv7, question, CLASSES, classOf, bars}
+use Rattle.listing.proofs.Bools.{one, one→, eq→eqb}
 
 pub ends-eq : Discrete Ends
 ends-eq = ×-discrete ℕ-discrete ℕ-discrete
@@ -50,20 +51,39 @@ overlap-sym : (x y : ℕ) → T (overlap x y) → T (overlap y x)
 overlap-sym x y t = go (one→ (isUnknown x) (isUnknown y || eqb x y) t)
   where
     later : T (isUnknown y) ⊎ T (eqb x y) → T (overlap y x)
-    later (inl u) = one (isUnknown y) (isUnknown x || eqb y x) (inl u)
-    later (inr e) = one (isUnknown y) (isUnknown x || eqb y x) (inr (one (isUnknown x) (eqb y x) (inr (subst (λ (v : ℕ). T (eqb y v)) (sym (eqb→eq x y e)) (eqb-refl y)))))
+    later (inl u) = one (isUnknown y) _ (inl u)
+    later (inr e) = one (isUnknown y) _ (inr (one (isUnknown x) _ (inr (eq→eqb y x (sym (eqb→eq x y e))))))
 
     go : T (isUnknown x) ⊎ T (isUnknown y || eqb x y) → T (overlap y x)
-    go (inl u) = one (isUnknown y) (isUnknown x || eqb y x) (inr (one (isUnknown x) (eqb y x) (inl u)))
+    go (inl u) = one (isUnknown y) _ (inr (one (isUnknown x) _ (inl u)))
     go (inr h) = later (one→ (isUnknown y) (eqb x y) h)
 
 pub meets-sym : (L : Listing) (a b : ℕ) → MayMeet L a b → MayMeet L b a
 meets-sym L a b = overlap-sym (locAt L a) (locAt L b)
 
 -- a full fence is a barrier under every question, whatever the ends
-pub bars-fence : (q k₁ k₂ : ℕ) → T (bars q k₁ k₂ 4)
-bars-fence q k₁ k₂ = tt
+pub bars-fence : (q : Question) (e : ℕ) → T (bars q e FENCE)
+bars-fence scOnX86 e = tt
+bars-fence scOnArmv7 e = tt
+bars-fence x86OnArmv7 e = tt
+bars-fence armv8OnArmv7 e = tt
 
--- a barrier does not depend on the ends
-pub bars-ends : (q k₁ k₂ j₁ j₂ k : ℕ) → bars q k₁ k₂ k ≡ bars q j₁ j₂ k
-bars-ends q k₁ k₂ j₁ j₂ k = refl
+-- a plain node is none
+pub bars-plain : (q : Question) (e : ℕ) → T (bars q e PLAIN) → ⊥
+bars-plain scOnX86 e t = t
+bars-plain scOnArmv7 e t = t
+bars-plain x86OnArmv7 e t = t
+bars-plain armv8OnArmv7 e t = t
+
+-- but for SC on x86 a full fence is the only one
+pub bars-else : (q e k : ℕ) → eqb q 1 ≡ false → bars (question q) e k ≡ isFence k
+bars-else q e k h = rw h (others (eqb q 2) (eqb q 3))
+  where
+    others : (x y : Bool) → bars (cond x scOnArmv7 (cond y x86OnArmv7 armv8OnArmv7)) e k ≡ isFence k
+    others true y = refl
+    others false true = refl
+    others false false = refl
+
+-- every pair of kinds has a class
+pub class-below : (k₁ k₂ : ℕ) → classOf k₁ k₂ < CLASSES
+class-below k₁ k₂ = omega arith

@@ -1,5 +1,6 @@
-pub mod Bools
 pub mod Lists
+pub mod Mapped
+pub mod Tests
 pub mod Tables
 pub mod Shorten
 pub mod Keys
@@ -8,6 +9,9 @@ pub mod Entries
 pub mod Rounds
 pub mod Least
 pub mod DemandThree
+pub mod Inside
+pub mod Renaming
+pub mod RenamingFails
 pub mod Patch
 pub mod PatchWalk
 pub mod PatchFails

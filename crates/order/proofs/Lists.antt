@@ -9,7 +9,7 @@ use native.Mathlib.Decide.{ℕ-discrete}
 use lib.Dec.{T}
 use lib.ListN.{length, length-append}
 use Rattle.order.specs.Rows.{All, In, Different, Row}
-use Rattle.order.proofs.Bools.{both, both→, one, one→}
+use Rattle.listing.proofs.Bools.{both, both→, one, one→}
 
 module _ {A : Type 0} where
   pub all-in : (p : A → Type 0) (xs : List A) → All p xs → (x : A) → In x xs → p x
@@ -130,10 +130,6 @@ module _ {A : Type 0} where
   every-in p [] t x i = absurd i
   every-in p (y ∷ ys) t x (inl e) = subst (λ (v : A). T (p v)) (sym e) (both→ (p y) (every p ys) t .0)
   every-in p (y ∷ ys) t x (inr i) = every-in p ys (both→ (p y) (every p ys) t .1) x i
-
-  pub in-every : (p : A → Bool) (xs : List A) → All (λ x. T (p x)) xs → T (every p xs)
-  in-every p [] h = tt
-  in-every p (x ∷ xs) h = both (p x) (every p xs) (h .0) (in-every p xs (h .1))
 
   -- different entries of a list are no more than its entries
   pub pigeons : (xs us : List A) → Different xs → ((x : A) → In x xs → In x us) → length xs ≤ length us

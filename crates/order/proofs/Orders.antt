@@ -94,7 +94,8 @@ better-irrefl ps (inl h) = omega arith
 better-irrefl ps (inr h) = smaller-irrefl ps (h .1)
 
 -- A LIST WITH AN ENTRY HAS A LEAST ONE
-module _ {A : Type 0} (lt : A → A → Type 0) (trans : (x y z : A) → lt x y → lt y z → lt x z) (irrefl : (x : A) → lt x x → ⊥) (order : (x y : A) → Order A lt x y) where
+module _ {A : Type 0} (lt : A → A → Type 0) (order : (x y : A) → Order A lt x y)
+    (trans : (x y z : A) → lt x y → lt y z → lt x z) (irrefl : (x : A) → lt x x → ⊥) where
   pub record Min (xs : List A) : Type 0 where
     pub at : A
     pub inside : In at xs

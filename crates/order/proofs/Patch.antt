@@ -8,10 +8,11 @@ use native.Mathlib.Nat.{add-zero}
 use native.Mathlib.Omega.{arith}
 use lib.ListN.{length, getD, length-append, List·getD-append}
 use lib.Seq.{getD-append-add}
+use Rattle.listing.specs.Kinds.{FENCE}
 use Rattle.listing.specs.Node.{Node, none, blank, Listing, node}
 use Rattle.order.specs.Walks.{kindAt, locAt, Next, Succ}
 use Rattle.order.specs.Patched.{Marks, marked, places, redirect, fenceAfter, kept, fences, patched}
-use Rattle.order.proofs.Bools.{bool?}
+use Rattle.listing.proofs.Bools.{bool?}
 
 -- a successor as the reader admits it: none, or a node
 abbrev pub Target : Listing → ℕ → Type 0
@@ -122,8 +123,12 @@ patched-loc L ms a h = go (bool? (marked ms a))
     go (inl e) = ap (λ (n : Node). n .location) (patched-marked L ms a h e)
     go (inr e) = ap (λ (n : Node). n .location) (patched-unmarked L ms a h e)
 
+pub fence-kind : (L : Listing) (ms : Marks) (a : ℕ) → a < length L → marked ms a ≡ true → kindAt (patched L ms) (fenceOf L ms a) ≡ FENCE
+fence-kind L ms a h e = ap (λ (n : Node). n .kind) (patched-fence L ms a h e)
+
 -- every other number is a fence's
-pub patched-new : (L : Listing) (ms : Marks) (x : ℕ) → length L ≤ x → x < length (patched L ms) → (a : ℕ) × (a < length L) × (marked ms a ≡ true) × (fenceOf L ms a ≡ x)
+pub patched-new : (L : Listing) (ms : Marks) (x : ℕ) → length L ≤ x → x < length (patched L ms)
+    → (a : ℕ) × (a < length L) × (marked ms a ≡ true) × (fenceOf L ms a ≡ x)
 patched-new L ms x h k =
     let r = fences-only L ms (x - length L) (omega (arith, patched-length L ms)) in
     (r .0, r .1, r .2, omega (arith, r .3))
@@ -132,45 +137,47 @@ pub fence-in : (L : Listing) (ms : Marks) (a : ℕ) → a < length L → marked 
 fence-in L ms a h e = omega (arith, patched-length L ms, fences-rank L ms a h e)
 
 -- ── Links of the patched listing ────────────────────────────────────────────
-module _ (L : Listing) (ms : Marks) (links : Links L) (small : length (patched L ms) ≤ 255) where
-  next-target : (a b : ℕ) → a < length L → b < length (patched L ms) → Next (node L a) b → b < length L
-  next-target a b h k (inl e) = go (links a h .0)
-    where
-      go : Target L (node L a .first) → b < length L
-      go (inl n) = absurd (omega (arith, e, n))
-      go (inr m) = omega (arith, e, m)
-  next-target a b h k (inr e) = go (links a h .1)
-    where
-      go : Target L (node L a .second) → b < length L
-      go (inl n) = absurd (omega (arith, e, n))
-      go (inr m) = omega (arith, e, m)
-
-  pub succ-unmarked : (a b : ℕ) → a < length L → marked ms a ≡ false → Succ (patched L ms) a b → Succ L a b
-  succ-unmarked a b h e s = let n = subst (λ (n : Node). Next n b) (patched-unmarked L ms a h e) (s .2) in (h, next-target a b h (s .1) n, n)
-
+module _ (L : Listing) (ms : Marks) where
+  -- each old link is there: from the node, or from the node to its fence and from that on
   pub unmarked-succ : (a b : ℕ) → marked ms a ≡ false → Succ L a b → Succ (patched L ms) a b
-  unmarked-succ a b e s = (omega (arith, patched-grows L ms, s .0), omega (arith, patched-grows L ms, s .1), subst (λ (n : Node). Next n b) (sym (patched-unmarked L ms a (s .0) e)) (s .2))
-
-  pub succ-marked : (a b : ℕ) → a < length L → marked ms a ≡ true → Succ (patched L ms) a b → fenceOf L ms a ≡ b
-  succ-marked a b h e s = go (subst (λ (n : Node). Next n b) (patched-marked L ms a h e) (s .2))
-    where
-      go : Next (redirect (node L a) (fenceOf L ms a)) b → fenceOf L ms a ≡ b
-      go (inl x) = x
-      go (inr x) = absurd (omega (arith, s .1, x))
+  unmarked-succ a b e s = (
+    omega (arith, patched-grows L ms, s .0),
+    omega (arith, patched-grows L ms, s .1),
+    subst (λ (n : Node). Next n b) (sym (patched-unmarked L ms a (s .0) e)) (s .2),
+  )
 
   pub marked-succ : (a : ℕ) → a < length L → marked ms a ≡ true → Succ (patched L ms) a (fenceOf L ms a)
-  marked-succ a h e = (omega (arith, patched-grows L ms), fence-in L ms a h e, subst (λ (n : Node). Next n (fenceOf L ms a)) (sym (patched-marked L ms a h e)) (inl refl))
-
-  pub succ-fence : (a b : ℕ) → a < length L → marked ms a ≡ true → Succ (patched L ms) (fenceOf L ms a) b → Succ L a b
-  succ-fence a b h e s = let n = subst (λ (n : Node). Next n b) (patched-fence L ms a h e) (s .2) in go n
-    where
-      go : Next (fenceAfter (node L a)) b → Succ L a b
-      go (inl x) = (h, next-target a b h (s .1) (inl x), inl x)
-      go (inr x) = (h, next-target a b h (s .1) (inr x), inr x)
+  marked-succ a h e = (
+    omega (arith, patched-grows L ms),
+    fence-in L ms a h e,
+    subst (λ (n : Node). Next n (fenceOf L ms a)) (sym (patched-marked L ms a h e)) (inl refl),
+  )
 
   pub fence-succ : (a b : ℕ) → marked ms a ≡ true → Succ L a b → Succ (patched L ms) (fenceOf L ms a) b
-  fence-succ a b e s = (fence-in L ms a (s .0) e, omega (arith, patched-grows L ms, s .1), subst (λ (n : Node). Next n b) (sym (patched-fence L ms a (s .0) e)) (go (s .2)))
-    where
-      go : Next (node L a) b → Next (fenceAfter (node L a)) b
-      go (inl x) = inl x
-      go (inr x) = inr x
+  fence-succ a b e s = (
+    fence-in L ms a (s .0) e,
+    omega (arith, patched-grows L ms, s .1),
+    subst (λ (n : Node). Next n b) (sym (patched-fence L ms a (s .0) e)) (s .2),
+  )
+
+  -- and no other
+  module _ (links : Links L) (small : length (patched L ms) ≤ 255) where
+    next-target : (a b : ℕ) → a < length L → b < length (patched L ms) → Next (node L a) b → b < length L
+    next-target a b h k = elim [ inl e ↦ go (node L a .first) e (links a h .0) | inr e ↦ go (node L a .second) e (links a h .1) ]
+      where
+        go : (s : ℕ) → s ≡ b → Target L s → b < length L
+        go s e (inl n) = absurd (omega arith)
+        go s e (inr m) = omega arith
+
+    pub succ-unmarked : (a b : ℕ) → a < length L → marked ms a ≡ false → Succ (patched L ms) a b → Succ L a b
+    succ-unmarked a b h e s = let n = subst (λ (n : Node). Next n b) (patched-unmarked L ms a h e) (s .2) in (h, next-target a b h (s .1) n, n)
+
+    pub succ-marked : (a b : ℕ) → a < length L → marked ms a ≡ true → Succ (patched L ms) a b → fenceOf L ms a ≡ b
+    succ-marked a b h e s = go (subst (λ (n : Node). Next n b) (patched-marked L ms a h e) (s .2))
+      where
+        go : Next (redirect (node L a) (fenceOf L ms a)) b → fenceOf L ms a ≡ b
+        go (inl x) = x
+        go (inr x) = absurd (omega (arith, s .1, x))
+
+    pub succ-fence : (a b : ℕ) → a < length L → marked ms a ≡ true → Succ (patched L ms) (fenceOf L ms a) b → Succ L a b
+    succ-fence a b h e s = let n = subst (λ (n : Node). Next n b) (patched-fence L ms a h e) (s .2) in (h, next-target a b h (s .1) n, n)

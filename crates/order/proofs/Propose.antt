@@ -9,7 +9,7 @@ use Rattle.listing.specs.Node.{Listing}
 use Rattle.order.specs.Verdict.{Robust}
 use Rattle.order.specs.Patched.{Marks, marked, patched}
 use Rattle.order.specs.Proposed.{Proposed}
-use Rattle.order.proofs.Bools.{bool?}
+use Rattle.listing.proofs.Bools.{bool?}
 use Rattle.order.proofs.Patch.{Links}
 use Rattle.order.proofs.PatchFails.{accepted}
 

@@ -38,7 +38,8 @@ round-chain L p (y ∷ ys) h =
     )
 
 -- a closed row of pairs that has a pair other than p has a round in it
-pub round : (L : Listing) (p : Ends) (xs : List Ends) → All (IsPair L) (p ∷ xs) → Row (Joined L) p xs p → (All (λ x. x ≡ p) xs → ⊥) → (rest : List Ends) × Round L p rest
+pub round : (L : Listing) (p : Ends) (xs : List Ends) → All (IsPair L) (p ∷ xs) → Row (Joined L) p xs p → (All (λ x. x ≡ p) xs → ⊥)
+    → (rest : List Ends) × Round L p rest
 round L p xs g h n =
     let l = loop ends-eq (Joined L) p xs h n in (
       l .rest,
@@ -51,7 +52,8 @@ round L p xs g h n =
     )
 
 -- SHORTENING: A CLOSED ROW OF PAIRS THAT HAS A PAIR OTHER THAN ITS FIRST HAS A CHAIN THROUGH THAT FIRST PAIR IN IT
-pub shorten : (L : Listing) (p : Ends) (xs : List Ends) → All (IsPair L) (p ∷ xs) → Row (Joined L) p xs p → (All (λ x. x ≡ p) xs → ⊥) → (rest : List Ends) × Chain L p rest
+pub shorten : (L : Listing) (p : Ends) (xs : List Ends) → All (IsPair L) (p ∷ xs) → Row (Joined L) p xs p → (All (λ x. x ≡ p) xs → ⊥)
+    → (rest : List Ends) × Chain L p rest
 shorten L p xs g h n =
     let k = round L p xs g h n in
     let c = round-chain L p (k .0) (k .1) in

@@ -9,8 +9,10 @@ use native.Mathlib.Decide.{ℕ-discrete}
 use lib.Dec.{T}
 use lib.ListN.{length}
 use Rattle.order.specs.Rows.{All, In, Row}
-use Rattle.order.proofs.Bools.{both, both→, one, one→}
-use Rattle.order.proofs.Lists.{all-in, in-all, in-left, in-right, in-either, keepIf, keep, some, in-keepIf, keepIf-in, in-keep, keep-in, some-in, in-some, pigeons}
+use Rattle.listing.proofs.Bools.{both, both→, one, one→}
+use Rattle.order.proofs.Lists.{all-in, in-all, in-left, in-right, in-either, pigeons}
+use Rattle.order.proofs.Lists.{keepIf, keep, some, in-keepIf, keepIf-in, in-keep, keep-in, some-in, in-some}
+use Rattle.order.proofs.Mapped.{in-mapped, mapped-in}
 use Rattle.order.proofs.Shorten.{Simple, simple}
 
 module _ {A : Type 0} (univ : List A) (ok : A → Bool) (r : A → A → Bool) where
@@ -62,7 +64,9 @@ module _ {A : Type 0} (univ : List A) (ok : A → Bool) (r : A → A → Bool) w
       ((g .0, h .0), (s .0 ∷ f .1 .0, (s .2, f .1 .1), (f .0, f .1 .2)))
 
   back-complete : (xs : List A) (x z : A) → Row R x xs z → All Good (x ∷ xs) → In x (back (length xs) z)
-  back-complete [] x z h g = in-keep (λ x. ok x && some (r x) (z ∷ [])) univ x (g .0 .0) (both (ok x) (some (r x) (z ∷ [])) (g .0 .1) (in-some (r x) (z ∷ []) z (inl refl) h))
+  back-complete [] x z h g =
+      in-keep (λ x. ok x && some (r x) (z ∷ [])) univ x (g .0 .0)
+      (both (ok x) (some (r x) (z ∷ [])) (g .0 .1) (in-some (r x) (z ∷ []) z (inl refl) h))
   back-complete (y ∷ ys) x z h g =
       in-keep (λ x. ok x && some (r x) (back (length ys) z)) univ x (g .0 .0)
       (both (ok x) (some (r x) (back (length ys) z)) (g .0 .1) (in-some (r x) (back (length ys) z) y (back-complete ys y z (h .1) (g .1)) (h .0)))
@@ -96,7 +100,10 @@ module _ {A : Type 0} (univ : List A) (ok : A → Bool) (r : A → A → Bool) w
   module _ (eq : Discrete A) where
     -- of every row through good entries the search finds one
     pub hits₁-complete : (a z y : A) (ys : List A) → Row R a (y ∷ ys) z → All Good (y ∷ ys) → T (hits₁ (length univ) a z)
-    hits₁-complete a z y ys h g = hits-at (length univ) (length (s .inside)) a z (pigeons (y ∷ s .inside) univ (s .different) (λ x i. all-in Good (y ∷ s .inside) k x i .0)) (in-some (r a) (back (length (s .inside)) z) y (back-complete (s .inside) y z (s .row) k) (h .0))
+    hits₁-complete a z y ys h g =
+        hits-at (length univ) (length (s .inside)) a z
+        (pigeons (y ∷ s .inside) univ (s .different) (λ x i. all-in Good (y ∷ s .inside) k x i .0))
+        (in-some (r a) (back (length (s .inside)) z) y (back-complete (s .inside) y z (s .row) k) (h .0))
       where
         s : Simple eq R y ys z
         s = simple eq R y ys z (h .1)
@@ -113,7 +120,7 @@ module _ {A : Type 0} where
   flat f [] = []
   flat f (x ∷ xs) = f x ++ flat f xs
 
-  pub in-flat : (f : A → List (List A)) (xs : List A) (x : A) (l : List A) → In x xs → In l (f x) → In l (flat f xs)
+  in-flat : (f : A → List (List A)) (xs : List A) (x : A) (l : List A) → In x xs → In l (f x) → In l (flat f xs)
   in-flat f [] x l i j = i
   in-flat f (y ∷ ys) x l (inl e) j = in-left (f y) (flat f ys) l (subst (λ (v : A). In l (f v)) e j)
   in-flat f (y ∷ ys) x l (inr i) j = in-right (f y) (flat f ys) l (in-flat f ys x l i j)
@@ -126,16 +133,6 @@ module _ {A : Type 0} where
       go (inl j) k = (y, inl refl, j)
       go (inr j) k = let g = k j in (g .0, inr (g .1), g .2)
 
-  heads-in : (x : A) (ls : List (List A)) (l : List A) → In l (map (λ k. x ∷ k) ls) → (k : List A) × In k ls × (l ≡ x ∷ k)
-  heads-in x [] l i = absurd i
-  heads-in x (k ∷ ls) l (inl e) = (k, inl refl, e)
-  heads-in x (k ∷ ls) l (inr i) = let g = heads-in x ls l i in (g .0, inr (g .1), g .2)
-
-  pub in-heads : (x : A) (ls : List (List A)) (l : List A) → In l ls → In (x ∷ l) (map (λ k. x ∷ k) ls)
-  in-heads x [] l i = i
-  in-heads x (k ∷ ls) l (inl e) = inl (ap (λ (v : List A). x ∷ v) e)
-  in-heads x (k ∷ ls) l (inr i) = inr (in-heads x ls l i)
-
 module _ {A : Type 0} (univ : List A) (r : A → A → Bool) where
   -- all the rows with exactly k entries inside
   abbrev pub rows : ℕ → A → A → List (List A)
@@ -144,7 +141,10 @@ module _ {A : Type 0} (univ : List A) (r : A → A → Bool) where
 
   pub rows-complete : (xs : List A) (a z : A) → Row (λ x y. T (r x y)) a xs z → All (λ x. In x univ) xs → In xs (rows (length xs) a z)
   rows-complete [] a z h g = in-keepIf (r a z) [] [] [] h (inl refl)
-  rows-complete (y ∷ ys) a z h g = in-flat (λ c. map (λ l. c ∷ l) (rows (length ys) c z)) (keep (r a) univ) y (y ∷ ys) (in-keep (r a) univ y (g .0) (h .0)) (in-heads y (rows (length ys) y z) ys (rows-complete ys y z (h .1) (g .1)))
+  rows-complete (y ∷ ys) a z h g =
+      in-flat (λ c. map (λ l. c ∷ l) (rows (length ys) c z)) (keep (r a) univ) y (y ∷ ys)
+      (in-keep (r a) univ y (g .0) (h .0))
+      (in-mapped (λ l. y ∷ l) (rows (length ys) y z) ys (rows-complete ys y z (h .1) (g .1)))
 
   -- they are rows of listed entries, and of that length
   abbrev pub Rowed : ℕ → A → A → List A → Type 0
@@ -159,6 +159,6 @@ module _ {A : Type 0} (univ : List A) (r : A → A → Bool) where
   rows-sound (suc k) a z xs i =
       let f = flat-in (λ c. map (λ l. c ∷ l) (rows k c z)) (keep (r a) univ) xs i in
       let c = keep-in (r a) univ (f .0) (f .1) in
-      let h = heads-in (f .0) (rows k (f .0) z) xs (f .2) in
+      let h = mapped-in (λ l. f .0 ∷ l) (rows k (f .0) z) xs (f .2) in
       let g = rows-sound k (f .0) z (h .0) (h .1) in
       subst (Rowed (suc k) a z) (sym (h .2)) ((c .1, g .0), (c .0, g .1), ap suc (g .2))

@@ -6,7 +6,7 @@ use Prim.Native.Nat.{ℕ, zero, suc, _+_, _<_}
 use native.Mathlib.Nat.{add-zero, zero-add, add-suc, suc-add, le-of-suc-le-suc, not-suc-le-zero}
 use lib.Dec.{T, eqb, eqb→eq}
 use lib.ListN.{length, getD}
-use Rattle.order.proofs.Bools.{both→}
+use Rattle.listing.proofs.Bools.{both→}
 
 sized : (a b : ℕ) (x : Bool) → T (eqb a b && x) → (a ≡ b) × T x
 sized a b x t = let h = both→ (eqb a b) x t in (eqb→eq a b (h .0), h .1)
@@ -43,7 +43,8 @@ module _ (n m k : ℕ) (rule : ℕ → ℕ → ℕ → ℕ) where
   right-all l = eqb (length l) n && everyFrom plane 0 l
 
   -- A TABLE THAT PASSES THE TEST HAS THE RULE AT EVERY ENTRY
-  pub right-at : (t : List (List (List ℕ))) (d₁ : List (List ℕ)) (d₂ : List ℕ) → T (right-all t) → (q a b : ℕ) → q < n → a < m → b < k → getD (getD (getD t q d₁) a d₂) b 0 ≡ rule q a b
+  pub right-at : (t : List (List (List ℕ))) (d₁ : List (List ℕ)) (d₂ : List ℕ) → T (right-all t)
+      → (q a b : ℕ) → q < n → a < m → b < k → getD (getD (getD t q d₁) a d₂) b 0 ≡ rule q a b
   right-at t d₁ d₂ ok q a b hq ha hb =
       let p₁ = getD t q d₁ in
       let p₂ = getD p₁ a d₂ in

@@ -1,7 +1,8 @@
--- The rehearsed listings, cases A to L, as one table.
+-- The rehearsed listings, cases A to L, as one table. The file serves a test alone: `cases-right` in proofs/Cases.antt says that every row is right.
 use mathlib.Core.List.{List, [], _∷_}
 use mathlib.Core.Bool.{true, false}
 use Prim.Native.Nat.{ℕ}
+use Rattle.listing.specs.Kinds.{READ, WRITE, RMW, FENCE}
 use Rattle.listing.specs.Node.{Node, none, Listing}
 use Rattle.order.specs.Verdict.{Verdict, robust, opened, Judged}
 use Rattle.order.specs.Patched.{Marks, patched}
@@ -19,18 +20,6 @@ of q L ms v = record { question = q; listing = L; map = ms; verdict = v }
 -- "routine, kind, location, first successor, second successor"
 abbrev at : ℕ → ℕ → ℕ → ℕ → ℕ → Node
 at r k l f s = record { routine = r; kind = k; location = l; first = f; second = s }
-
-abbrev read : ℕ
-read = 1
-
-abbrev write : ℕ
-write = 2
-
-abbrev rmw : ℕ
-rmw = 3
-
-abbrev fence : ℕ
-fence = 4
 
 -- "Cells: x = 1, y = 2, z = 3"
 abbrev x : ℕ
@@ -50,15 +39,15 @@ block = 32769
 
 -- "0 write x, 1 read y; 2 write y, 3 read x"
 abbrev pub caseA : Listing
-caseA = at 0 write x 1 none ∷ at 0 read y none none ∷ at 1 write y 3 none ∷ at 1 read x none none ∷ []
+caseA = at 0 WRITE x 1 none ∷ at 0 READ y none none ∷ at 1 WRITE y 3 none ∷ at 1 READ x none none ∷ []
 
 -- "0 read x, 1 write y; 2 read y, 3 write x"
 abbrev pub caseB : Listing
-caseB = at 0 read x 1 none ∷ at 0 write y none none ∷ at 1 read y 3 none ∷ at 1 write x none none ∷ []
+caseB = at 0 READ x 1 none ∷ at 0 WRITE y none none ∷ at 1 READ y 3 none ∷ at 1 WRITE x none none ∷ []
 
 -- "0 write x, 1 write y; 2 read y, 3 read x"
 abbrev pub caseC : Listing
-caseC = at 0 write x 1 none ∷ at 0 write y none none ∷ at 1 read y 3 none ∷ at 1 read x none none ∷ []
+caseC = at 0 WRITE x 1 none ∷ at 0 WRITE y none none ∷ at 1 READ y 3 none ∷ at 1 READ x none none ∷ []
 
 -- "A with map 1 0 0 0"
 abbrev mapD : Marks
@@ -70,27 +59,27 @@ mapE = true ∷ false ∷ true ∷ false ∷ []
 
 -- "0 write x, 1 RMW z, 2 read y; 3 write y, 4 RMW z, 5 read x"
 abbrev pub caseG : Listing
-caseG = at 0 write x 1 none ∷ at 0 rmw z 2 none ∷ at 0 read y none none ∷ at 1 write y 4 none ∷ at 1 rmw z 5 none ∷ at 1 read x none none ∷ []
+caseG = at 0 WRITE x 1 none ∷ at 0 RMW z 2 none ∷ at 0 READ y none none ∷ at 1 WRITE y 4 none ∷ at 1 RMW z 5 none ∷ at 1 READ x none none ∷ []
 
 -- "G with 1 RMW x and 4 RMW y"
 abbrev pub caseF : Listing
-caseF = at 0 write x 1 none ∷ at 0 rmw x 2 none ∷ at 0 read y none none ∷ at 1 write y 4 none ∷ at 1 rmw y 5 none ∷ at 1 read x none none ∷ []
+caseF = at 0 WRITE x 1 none ∷ at 0 RMW x 2 none ∷ at 0 READ y none none ∷ at 1 WRITE y 4 none ∷ at 1 RMW y 5 none ∷ at 1 READ x none none ∷ []
 
 -- "0 write x to 1 and 2, 1 fence, 2 read y; 3 write y, 4 fence, 5 read x"
 abbrev pub caseH : Listing
-caseH = at 0 write x 1 2 ∷ at 0 fence 0 2 none ∷ at 0 read y none none ∷ at 1 write y 4 none ∷ at 1 fence 0 5 none ∷ at 1 read x none none ∷ []
+caseH = at 0 WRITE x 1 2 ∷ at 0 FENCE 0 2 none ∷ at 0 READ y none none ∷ at 1 WRITE y 4 none ∷ at 1 FENCE 0 5 none ∷ at 1 READ x none none ∷ []
 
 -- "0 write block 32769, 1 read the same block; 2 and 3 alike", and "J with the cell x in place of the block"
 abbrev pub caseJ : ℕ → Listing
-caseJ l = at 0 write l 1 none ∷ at 0 read l none none ∷ at 1 write l 3 none ∷ at 1 read l none none ∷ []
+caseJ l = at 0 WRITE l 1 none ∷ at 0 READ l none none ∷ at 1 WRITE l 3 none ∷ at 1 READ l none none ∷ []
 
 -- "0 write x to 1, 1 read y to 0, one routine"
 abbrev pub caseK : Listing
-caseK = at 0 write x 1 none ∷ at 0 read y 0 none ∷ []
+caseK = at 0 WRITE x 1 none ∷ at 0 READ y 0 none ∷ []
 
 -- "0 write unknown, 1 write unknown, one routine"
 abbrev pub caseL : Listing
-caseL = at 0 write 0 1 none ∷ at 0 write 0 none none ∷ []
+caseL = at 0 WRITE 0 1 none ∷ at 0 WRITE 0 none none ∷ []
 
 -- every question that the paper answers for them
 abbrev pub cases : List Case
@@ -122,12 +111,12 @@ cases =
 
 -- "Skipping the pair of a node with itself in a loop: a write to a block can follow itself": 0 write block to 0; 1 write block to 1
 abbrev pub ownPairs : Listing
-ownPairs = at 0 write block 0 none ∷ at 1 write block 1 none ∷ []
+ownPairs = at 0 WRITE block 0 none ∷ at 1 WRITE block 1 none ∷ []
 
 -- "Using one neighbour before and one after as if that closed a chain": 2-3 follows 0-1 and 4-5
 -- leads to it, but 2-3 does not lead to 4-5
 abbrev pub neighbours : Listing
-neighbours = at 0 write x 1 none ∷ at 0 read y none none ∷ at 1 read y 3 none ∷ at 1 read z none none ∷ at 2 read w 5 none ∷ at 2 write x none none ∷ []
+neighbours = at 0 WRITE x 1 none ∷ at 0 READ y none none ∷ at 1 READ y 3 none ∷ at 1 READ z none none ∷ at 2 READ w 5 none ∷ at 2 WRITE x none none ∷ []
 
 -- two of the paper's "shortcuts that look right", as rows
 abbrev pub shortcuts : List Case

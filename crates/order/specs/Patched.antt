@@ -3,6 +3,7 @@ use mathlib.Core.List.{List, [], _∷_, _++_}
 use mathlib.Core.Bool.{Bool, true, false}
 use Prim.Native.Nat.{ℕ, suc}
 use lib.ListN.{length, getD}
+use Rattle.listing.specs.Kinds.{FENCE}
 use Rattle.listing.specs.Node.{Node, none, Listing}
 
 -- "A patch map has one byte a node, 1 for a fence after it, 0 for none": as marks, `true` for a fence
@@ -24,7 +25,7 @@ redirect n k = record { routine = n .routine; kind = n .kind; location = n .loca
 
 -- "A fence after node n has n's routine and n's old successors"; its "location is 0"
 abbrev pub fenceAfter : Node → Node
-fenceAfter n = record { routine = n .routine; kind = 4; location = 0; first = n .first; second = n .second }
+fenceAfter n = record { routine = n .routine; kind = FENCE; location = 0; first = n .first; second = n .second }
 
 -- the old nodes: "Fences are numbered" from k "upward in the order of the nodes they follow"
 abbrev pub kept : ℕ → Listing → Marks → Listing

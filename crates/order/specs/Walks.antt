@@ -6,6 +6,7 @@ use mathlib.Core.Bool.{Bool, _||_}
 use Prim.Native.Nat.{ℕ, _<_}
 use lib.Dec.{T, eqb}
 use lib.ListN.{length}
+use Rattle.listing.specs.Kinds.{READ, WRITE, RMW, FENCE}
 use Rattle.listing.specs.Node.{Node, Listing, node}
 use Rattle.order.specs.Rows.{Row}
 
@@ -15,22 +16,22 @@ kindAt L a = node L a .kind
 abbrev pub locAt : Listing → ℕ → ℕ
 locAt L a = node L a .location
 
--- "Kinds: 0 plain, 1 read, 2 write, 3 read-modify-write that always completes (RMW), 4 full fence"
-abbrev pub isRead : ℕ → Bool
-isRead k = eqb k 1
+-- what counts as a read, as a write, and as an RMW
+abbrev pub countsRead : ℕ → Bool
+countsRead k = eqb k READ
 
-abbrev pub isWrite : ℕ → Bool
-isWrite k = eqb k 2
+abbrev pub countsWrite : ℕ → Bool
+countsWrite k = eqb k WRITE
 
-abbrev pub isRmw : ℕ → Bool
-isRmw k = eqb k 3
-
-abbrev pub isFence : ℕ → Bool
-isFence k = eqb k 4
+abbrev pub countsRmw : ℕ → Bool
+countsRmw k = eqb k RMW
 
 -- "Kinds 1 to 3 are accesses"
 abbrev pub isAccess : ℕ → Bool
-isAccess k = isRead k || (isWrite k || isRmw k)
+isAccess k = countsRead k || (countsWrite k || countsRmw k)
+
+abbrev pub isFence : ℕ → Bool
+isFence k = eqb k FENCE
 
 abbrev pub Access : Listing → ℕ → Type 0
 Access L a = T (isAccess (kindAt L a))

@@ -1,13 +1,21 @@
 // The rules of order on numbers: what the judge asks of two nodes at a time.
 ghost use mathlib.Core.Path.{_≡_};
-ghost use Prim.Native.Nat.{_<_, _≤_};
+ghost use Prim.Native.Nat.{_<_};
+ghost use Rattle.listing.specs.Kinds.{KINDS};
 ghost use Rattle.order.specs.Walks.{isAccess};
 ghost use Rattle.order.specs.Chains as chains;
+ghost use Rattle.order.specs.Need.{Asked};
 ghost use Rattle.order.specs.Need as rules;
 ghost use Rattle.order.specs.Inner.Table as table;
 
+// How many questions there are.
+pub const QUESTIONS: usize = 4;
+
+// How many classes of ends barriers tell apart.
+pub const CLASSES: usize = 1;
+
 // The need for order: 0 leave, 1 need, 2 leave unless an RMW is inside. By question, first kind and second kind.
-const NEED: [[[u8; 5]; 5]; 4] = [
+const NEED: [[[u8; listing::KINDS]; listing::KINDS]; QUESTIONS] = [
     [
         [0, 0, 0, 0, 0],
         [0, 0, 0, 0, 0],
@@ -42,13 +50,13 @@ const NEED: [[[u8; 5]; 5]; 4] = [
 pub fn is_access(kind: u8) -> bool
     ensures { λ r. ⌜ r ≡ isAccess kind ⌝ }
 {
-    if kind == 1 {
+    if kind == listing::READ {
         return true;
     }
-    if kind == 2 {
+    if kind == listing::WRITE {
         return true;
     }
-    kind == 3
+    kind == listing::RMW
 }
 
 // Two locations may meet: either is unknown, or they are equal.
@@ -77,22 +85,22 @@ pub fn surely(x: usize, y: usize) -> bool
     x <= 32767
 }
 
-// A node of this kind inside is a barrier, by question and the kinds of the ends.
-pub fn bars(question: u8, first: u8, second: u8, kind: u8) -> bool
-    ensures { λ r. ⌜ r ≡ rules.bars question first second kind ⌝ }
+// A node of this kind inside is a barrier, by question and the class of the ends.
+pub fn bars(question: u8, class: usize, kind: u8) -> bool
+    ensures { λ r. ⌜ r ≡ rules.bars (rules.question question) class kind ⌝ }
 {
-    if kind == 4 {
+    if kind == listing::FENCE {
         return true;
     }
     if question != 1 {
         return false;
     }
-    kind == 3
+    kind == listing::RMW
 }
 
 // What the table says of a pair, by question and the kinds of its ends.
 pub fn need(question: u8, first: u8, second: u8) -> u8
-    requires { ⌜ (1 ≤ question) × (question ≤ 4) × (first < 5) × (second < 5) ⌝ }
+    requires { ⌜ Asked question × (first < KINDS) × (second < KINDS) ⌝ }
     ensures { λ r. ⌜ r ≡ table.numberOf (table.entryOf question first second) ⌝ }
 {
     NEED[(question - 1) as usize][first as usize][second as usize]

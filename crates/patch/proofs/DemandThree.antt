@@ -1,16 +1,15 @@
 -- Demand 3 about judging with a map: accepted exactly if the map fits and every closed chain of steps of the patched listing has each step
 -- in order or free of need; and which maps are accepted.
-use mathlib.Core.Path.{_≡_, refl, sym, ap, _∙_, subst}
+use mathlib.Core.Path.{_≡_, sym, _∙_, subst}
 use mathlib.Core.Logic.{_↔_}
 use mathlib.Core.List.{List, _++_}
 use Prim.Native.Nat.{ℕ, _+_, _≤_, _<_}
 use native.Mathlib.Decide.{decLe}
 use native.Mathlib.Omega.{arith}
-use borrow.Author.Tests.{lt-ltb, le-ltb}
 use lib.ListN.{length}
 use Rattle.listing.specs.Limits.{NODES}
 use Rattle.listing.specs.Node.{Listing}
-use Rattle.listing.specs.Bytes.{countF, countN, nodesOf}
+use Rattle.listing.specs.Bytes.{versionOf, countF, countN, nodesOf}
 use Rattle.listing.specs.Rules.{Refusal, passed, refused, firstOf}
 use Rattle.listing.specs.Read.{readRules, Admitted}
 use Rattle.listing.specs.Answer.{Answer, refusal}
@@ -25,18 +24,18 @@ use Rattle.order.proofs.PatchFails.{accepted, acceptance-monotone}
 use Rattle.order.proofs.DemandThree.{robust-ordered, ordered-robust}
 use Rattle.fencing.specs.Marks.{marksOf}
 use Rattle.fencing.specs.Inner.MapFits.{MapFits}
-use Rattle.fencing.proofs.Marks.{marks-length}
+use Rattle.fencing.proofs.Marks.{mapped}
 use Rattle.fencing.proofs.PatchedValid.{valid-links}
 use Rattle.verdict.specs.Judging.{questionRules, bufferRules, CHAIN, verdictSays, Told, Judging}
-use Rattle.verdict.proofs.Refusing.{row-applies, row-passes}
+use Rattle.verdict.proofs.Promise.{one-kind}
 use Rattle.patch.specs.Patching.{mapRules, fitRules, patchRules, judgePatchRules, JudgePatchPromise}
 use Rattle.patch.specs.Accepting.{otherRules, Spoken, Fits, Accepted, Serves, Adds}
-use Rattle.patch.proofs.MapRules.{passes-admitted, passes-fits}
+use Rattle.patch.proofs.MapRules.{patchedOf, fit-stops, fit-passes, passes-admitted, passes-fits}
 
 -- ── ROBUST is said exactly of robust listings ───────────────────────────────
 robust-said : (q : ℕ) (L : Listing) (v : Verdict) (r : Answer) → Judged q L v → r ≡ verdictSays v → Accepted r → Robust q L
 robust-said q L robust r j e a = j
-robust-said q L (opened p rest) r j e a = let z : _≡_ {A = ℕ} 0 1 = ap (λ (x : Answer). x .kind) (sym a ∙ e) in absurd (omega arith)
+robust-said q L (opened p rest) r j e a = absurd (omega (arith, one-kind (sym a ∙ e)))
 
 says-robust : (q : ℕ) (L : Listing) (v : Verdict) (r : Answer) → Judged q L v → r ≡ verdictSays v → Robust q L → Accepted r
 says-robust q L robust r j e h = e
@@ -63,7 +62,7 @@ module _ (q : ℕ) (s map old : List ℕ) where
         ∙ pass (mapRules s map) (fitRules s (marksOf map)) (pass-first (mapRules s map) (bufferRules CHAIN old) map-on)
 
     map-fits : Fits s (marksOf map) → firstOf (patchRules s map) ≡ passed
-    map-fits h = to-fit ∙ row-passes _ 15 0 (le-ltb NODES (countN s + places (marksOf map)) h)
+    map-fits h = to-fit ∙ fit-passes s (marksOf map) h
 
     call-passes : Fits s (marksOf map) → firstOf (judgePatchRules q s map old) ≡ passed
     unfolding judgePatchRules
@@ -76,27 +75,19 @@ module _ (q : ℕ) (s map old : List ℕ) where
     unfolding judgePatchRules
     call-refused h =
         pass (questionRules q) (patchRules s map ++ bufferRules CHAIN old) asked
-        ∙ stop (patchRules s map) (bufferRules CHAIN old) 15 0 (to-fit ∙ row-applies _ 15 0 (lt-ltb NODES (countN s + places (marksOf map)) h))
+        ∙ stop (patchRules s map) (bufferRules CHAIN old) 15 0 (to-fit ∙ fit-stops s (marksOf map) h)
 
   module _ (new : List ℕ) (r : Answer) (promise : JudgePatchPromise q s map old new r) where
-    by-table : (f : Refusal) → firstOf (judgePatchRules q s map old) ≡ f → Judging f q (patched (nodesOf s) (marksOf map)) old new r
-    by-table f e = subst (λ (x : Refusal). Judging x q (patched (nodesOf s) (marksOf map)) old new r) e promise
+    by-table : (f : Refusal) → firstOf (judgePatchRules q s map old) ≡ f → Judging f q (patchedOf s map) old new r
+    by-table f e = subst (λ (x : Refusal). Judging x q (patchedOf s map) old new r) e promise
 
     -- a call that is answered is ROBUST exactly if the patched listing is
-    told-robust : firstOf (judgePatchRules q s map old) ≡ passed → Accepted r ↔ Robust q (patched (nodesOf s) (marksOf map))
+    told-robust : firstOf (judgePatchRules q s map old) ≡ passed → Accepted r ↔ Robust q (patchedOf s map)
     told-robust e =
-        let t : Told q (patched (nodesOf s) (marksOf map)) old new r = by-table passed e in (
-          robust-said q (patched (nodesOf s) (marksOf map)) (t .verdict) r (t .judged) (t .says),
-          says-robust q (patched (nodesOf s) (marksOf map)) (t .verdict) r (t .judged) (t .says),
+        let t : Told q (patchedOf s map) old new r = by-table passed e in (
+          robust-said q (patchedOf s map) (t .verdict) r (t .judged) (t .says),
+          says-robust q (patchedOf s map) (t .verdict) r (t .judged) (t .says),
         )
-
-    -- what is accepted is refused by no rule
-    not-refused : Accepted r → firstOf (judgePatchRules q s map old) ≡ passed
-    not-refused a = go (firstOf (judgePatchRules q s map old)) promise
-      where
-        go : (f : Refusal) → Judging f q (patched (nodesOf s) (marksOf map)) old new r → f ≡ passed
-        go passed j = refl
-        go (refused k p) j = let z : _≡_ {A = ℕ} 0 2 = ap (λ (x : Answer). x .kind) (sym a ∙ j .0) in absurd (omega arith)
 
     module _ (spoken : Spoken q s map old) where
       refused-15 : (Fits s (marksOf map) → ⊥) → r ≡ refusal 15 0
@@ -106,33 +97,30 @@ module _ (q : ℕ) (s map old : List ℕ) where
       pub demand3 : Accepted r ↔ (Fits s (marksOf map) × Ordered q (patched (nodesOf s) (marksOf map)))
       demand3 = (
         λ a. go a (decLe (countN s + places (marksOf map)) NODES),
-        λ h. told-robust (call-passes spoken (h .0)) .1 (ordered-robust q (patched (nodesOf s) (marksOf map)) (h .1)),
+        λ h. told-robust (call-passes spoken (h .0)) .1 (ordered-robust q (patchedOf s map) (h .1)),
       )
         where
-          go : Accepted r → Dec (Fits s (marksOf map)) → Fits s (marksOf map) × Ordered q (patched (nodesOf s) (marksOf map))
-          go a (yes h) = (h, robust-ordered q (patched (nodesOf s) (marksOf map)) (told-robust (call-passes spoken h) .0 a))
-          go a (no n) = let z : _≡_ {A = ℕ} 0 2 = ap (λ (x : Answer). x .kind) (sym a ∙ refused-15 n) in absurd (omega arith)
+          go : Accepted r → Dec (Fits s (marksOf map)) → Fits s (marksOf map) × Ordered q (patchedOf s map)
+          go a (yes h) = (h, robust-ordered q (patchedOf s map) (told-robust (call-passes spoken h) .0 a))
+          go a (no n) = absurd (omega (arith, one-kind (sym a ∙ refused-15 n)))
 
       -- 15 EXACTLY IF THE MAP DOES NOT FIT
       pub refused-15-exactly : (r ≡ refusal 15 0) ↔ (Fits s (marksOf map) → ⊥)
       refused-15-exactly = (λ e h. told (by-table passed (call-passes spoken h)) e, refused-15)
         where
           other : (v : Verdict) → r ≡ verdictSays v → r ≡ refusal 15 0 → ⊥
-          other robust e k = let z : _≡_ {A = ℕ} 0 2 = ap (λ (x : Answer). x .kind) (sym e ∙ k) in omega arith
-          other (opened p rest) e k = let z : _≡_ {A = ℕ} 1 2 = ap (λ (x : Answer). x .kind) (sym e ∙ k) in omega arith
+          other robust e k = omega (arith, one-kind (sym e ∙ k))
+          other (opened p rest) e k = omega (arith, one-kind (sym e ∙ k))
 
-          told : Told q (patched (nodesOf s) (marksOf map)) old new r → r ≡ refusal 15 0 → ⊥
+          told : Told q (patchedOf s map) old new r → r ≡ refusal 15 0 → ⊥
           told t k = other (t .verdict) (t .says) k
 
 -- ── Which maps are accepted ─────────────────────────────────────────────────
 links-of : (s : List ℕ) → Admitted s → Links (nodesOf s)
-links-of s e = valid-links (countF s) (nodesOf s) (admitted-valid s e)
+links-of s e = valid-links (versionOf s) (countF s) (nodesOf s) (admitted-valid s e)
 
-small : (s map : List ℕ) → MapFits s map → length (patched (nodesOf s) (marksOf map)) ≤ 255
-small s map fits =
-    let many = nodes-length s in
-    let mapped : length (marksOf map) ≤ length (nodesOf s) = omega (arith, marks-length map, fits .each) in
-    omega (arith, length-patched (nodesOf s) (marksOf map) mapped, fits .few)
+small : (s map : List ℕ) → MapFits s map → length (patchedOf s map) ≤ 255
+small s map fits = omega (arith, length-patched (nodesOf s) (marksOf map) (mapped s map fits), nodes-length s, fits .few)
 
 -- A MAP WITH A FENCE AFTER THE FIRST ACCESS OF EVERY FAILING PAIR, THAT FITS, IS ACCEPTED
 pub serving-accepted : (q : ℕ) (s map old new : List ℕ) (r : Answer) → JudgePatchPromise q s map old new r
@@ -151,5 +139,6 @@ more-accepted q s map more old old′ new new′ r r′ promise promise′ spoke
     let p = map-fits q s map old spoken fits in
     let p′ = map-fits q s more old′ spoken′ fits′ in
     told-robust q s more old′ new′ r′ promise′ (call-passes q s more old′ spoken′ fits′) .1
-    (acceptance-monotone q (nodesOf s) (marksOf map) (marksOf more) (links-of s (passes-admitted s map p)) (small s map (passes-fits s map p)) (small s more (passes-fits s more p′)) adds
+    (acceptance-monotone q (nodesOf s) (marksOf map) (marksOf more) (links-of s (passes-admitted s map p))
+    (small s map (passes-fits s map p)) (small s more (passes-fits s more p′)) adds
     (told-robust q s map old new r promise (call-passes q s map old spoken fits) .0 a))

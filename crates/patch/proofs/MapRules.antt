@@ -6,16 +6,25 @@ use native.Mathlib.Numerals.{add-one}
 use lib.ListN.{length, getD, drop, drop-of-length-le}
 use lib.Dec.{ltb}
 use borrow.Author.Tests.{lt-ltb, le-ltb, eq-eqb, ne-eqb, ltb-false, eqb-true, not-false}
-use Rattle.listing.specs.Bytes.{countN}
+use Rattle.listing.specs.Limits.{NODES}
+use Rattle.listing.specs.Node.{Listing}
+use Rattle.listing.specs.Bytes.{countN, nodesOf}
 use Rattle.listing.specs.Rules.{Rule, rule, passed, refused, firstOf}
 use Rattle.listing.specs.Read.{readRules, Admitted}
 use Rattle.listing.proofs.Table.{pass, stop, pass-first, pass-then, none-applies}
 use Rattle.listing.proofs.Reading.{admitted-whole}
+use Rattle.listing.proofs.Stores.{next}
+use Rattle.order.specs.Patched.{Marks, places, patched}
 use Rattle.fencing.specs.Marks.{marksOf}
 use Rattle.fencing.specs.Inner.MapFits.{MapFits}
-use Rattle.fencing.proofs.Marks.{next}
+use Rattle.verdict.proofs.Refusing.{row-applies, row-passes}
 use Rattle.patch.specs.Patching.{byteRules, mapRules, fitRules, patchRules}
+use Rattle.patch.specs.Accepting.{Fits}
 use Rattle.patch.specs.Inner.Checking.{wrongAt}
+
+-- the patched listing, of the bytes
+abbrev pub patchedOf : List ℕ → List ℕ → Listing
+patchedOf s map = patched (nodesOf s) (marksOf map)
 
 -- ── Rule 14, byte by byte ───────────────────────────────────────────────────
 module _ (map : List ℕ) (i : ℕ) (past : firstOf (byteRules 0 map) ≡ firstOf (byteRules i (drop i map))) where
@@ -48,6 +57,13 @@ module _ (s map : List ℕ) (rest : List Rule) where
 
     pub map-right : length map ≤ r → firstOf (mapRules s map ++ rest) ≡ firstOf rest
     map-right h = length-right e ∙ pass (byteRules 0 map) rest (b ∙ simp (le-ltb r (length map) h))
+
+module _ (s : List ℕ) (ms : Marks) where
+  pub fit-stops : NODES < countN s + places ms → firstOf (fitRules s ms) ≡ refused 15 0
+  fit-stops h = row-applies _ 15 0 (lt-ltb NODES (countN s + places ms) h)
+
+  pub fit-passes : Fits s ms → firstOf (fitRules s ms) ≡ passed
+  fit-passes h = row-passes _ 15 0 (le-ltb NODES (countN s + places ms) h)
 
 -- ── The listing and its map ─────────────────────────────────────────────────
 module _ (s map : List ℕ) where

@@ -1,4 +1,4 @@
--- What propose answers and writes: the marks of the failing pairs' first nodes, their number, and a map that judging accepts.
+-- What propose writes: the marks of the failing pairs' first nodes, a map that judging accepts.
 use mathlib.Core.Path.{_≡_, refl, sym, ap, _∙_, subst}
 use mathlib.Core.Bool.{true, false}
 use mathlib.Core.List.{List, [], _∷_, _++_}
@@ -13,11 +13,12 @@ use Rattle.listing.specs.Read.{readRules}
 use Rattle.listing.specs.Answer.{Answer, done, filled}
 use Rattle.listing.proofs.Nodes.{nodes-length}
 use Rattle.listing.proofs.Table.{pass, pass-first, pass-then, none-applies}
-use Rattle.order.specs.Patched.{Marks, marked, places}
+use Rattle.order.specs.Patched.{Marks, marked}
 use Rattle.order.specs.Proposed.{Proposed}
 use Rattle.fencing.specs.Marks.{marksOf}
 use Rattle.verdict.specs.Judging.{questionRules, bufferRules, CHAIN}
 use Rattle.verdict.proofs.Refusing.{buffer-passes}
+use Rattle.verdict.proofs.Promise.{one-kind}
 use Rattle.patch.specs.Patching.{
   byteRules,
   mapRules,
@@ -34,11 +35,11 @@ use Rattle.patch.specs.Accepting.{otherRules, Spoken, Fits, Accepted}
 use Rattle.patch.proofs.DemandThree.{serving-accepted}
 
 -- ── The bytes of marks ──────────────────────────────────────────────────────
-pub bytes-length : (ms : Marks) → length (mapBytes ms) ≡ length ms
+bytes-length : (ms : Marks) → length (mapBytes ms) ≡ length ms
 bytes-length [] = refl
 bytes-length (m ∷ ms) = ap suc (bytes-length ms)
 
-pub bytes-marks : (ms : Marks) → marksOf (mapBytes ms) ≡ ms
+bytes-marks : (ms : Marks) → marksOf (mapBytes ms) ≡ ms
 unfolding marksOf
 bytes-marks [] = refl
 bytes-marks (true ∷ ms) = ap (λ (l : Marks). true ∷ l) (bytes-marks ms)
@@ -55,14 +56,14 @@ map-passes s ms h = simp (eq-eqb (length (mapBytes ms)) (countN s) (bytes-length
 
 -- ── A count is answered only where nothing is refused ───────────────────────
 offer-answered : (f : Refusal) (ms : Marks) (old new : List ℕ) (k : ℕ) → Offered f ms old new (done 0 0 k)
-    → (f ≡ passed) × (k ≡ places ms) × (new ≡ filled (mapBytes ms) old)
-offer-answered passed ms old new k o = (refl, ap (λ (a : Answer). a .count) (o .0), o .1)
-offer-answered (refused n p) ms old new k o = let z : _≡_ {A = ℕ} 0 2 = ap (λ (a : Answer). a .kind) (o .0) in absurd (omega arith)
+    → (f ≡ passed) × (new ≡ filled (mapBytes ms) old)
+offer-answered passed ms old new k o = (refl, o .1)
+offer-answered (refused n p) ms old new k o = absurd (omega (arith, one-kind (o .0)))
 
 ask-answered : (f : Refusal) (q : ℕ) (s old new : List ℕ) (k : ℕ) → Proposing f q s old new (done 0 0 k)
     → (f ≡ passed) × ((ms : Marks) × Proposed q (nodesOf s) ms × Offered (firstOf (offerRules s ms old)) ms old new (done 0 0 k))
 ask-answered passed q s old new k o = (refl, o)
-ask-answered (refused n p) q s old new k o = let z : _≡_ {A = ℕ} 0 2 = ap (λ (a : Answer). a .kind) (o .0) in absurd (omega arith)
+ask-answered (refused n p) q s old new k o = absurd (omega (arith, one-kind (o .0)))
 
 module _ (q : ℕ) (s old new : List ℕ) (k : ℕ) (promise : ProposePromise q s old new (done 0 0 k)) where
   ask-passes : firstOf (askRules q s) ≡ passed
@@ -77,13 +78,9 @@ module _ (q : ℕ) (s old new : List ℕ) (k : ℕ) (promise : ProposePromise q 
   unfolding proposal
   proposal-right = ask-answered (firstOf (askRules q s)) q s old new k promise .1 .1
 
-  offer : (firstOf (offerRules s proposal old) ≡ passed) × (k ≡ places proposal) × (new ≡ filled (mapBytes proposal) old)
+  offer : (firstOf (offerRules s proposal old) ≡ passed) × (new ≡ filled (mapBytes proposal) old)
   unfolding proposal
   offer = offer-answered (firstOf (offerRules s proposal old)) proposal old new k (ask-answered (firstOf (askRules q s)) q s old new k promise .1 .2)
-
-  -- THE COUNT IS THE NUMBER OF ONES
-  pub proposal-counted : k ≡ places proposal
-  proposal-counted = offer .1
 
   proposal-length : length proposal ≡ countN s
   proposal-length = proposal-right .size ∙ nodes-length s
@@ -91,7 +88,7 @@ module _ (q : ℕ) (s old new : List ℕ) (k : ℕ) (promise : ProposePromise q 
   -- THE FIRST N BYTES ARE THE MARKS
   pub proposal-bytes : take (countN s) new ≡ mapBytes proposal
   proposal-bytes =
-      ap (take (countN s)) (offer .2)
+      ap (take (countN s)) (offer .1)
       ∙ take-at (mapBytes proposal) (drop (length (mapBytes proposal)) old) (countN s) (bytes-length proposal ∙ proposal-length)
 
   proposal-fits : Fits s proposal

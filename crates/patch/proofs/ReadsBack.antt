@@ -9,38 +9,37 @@ use Rattle.listing.specs.Node.{Listing}
 use Rattle.listing.specs.Bytes.{nodesOf}
 use Rattle.listing.specs.Rules.{Rule, Refusal, passed, refused, firstOf}
 use Rattle.listing.specs.Inner.Numbered.{orElse}
-use Rattle.listing.specs.Read.{readRules, Admitted}
+use Rattle.listing.specs.Read.{readRules}
 use Rattle.listing.specs.Answer.{Answer, done, filled}
-use Rattle.listing.proofs.Nodes.{nodes-length}
 use Rattle.listing.proofs.Table.{none-applies, firstOf-append, pass, pass-first, pass-then}
 use Rattle.order.specs.Patched.{patched}
 use Rattle.fencing.specs.Marks.{marksOf}
-use Rattle.fencing.specs.Inner.MapFits.{MapFits}
 use Rattle.fencing.specs.Written.{Written}
-use Rattle.fencing.proofs.Marks.{marks-length}
-use Rattle.fencing.proofs.PatchedFenced.{patched-fenced, fenced-unique}
 use Rattle.fencing.proofs.Written.{written}
 use Rattle.verdict.specs.declared.JudgeAnswer.{JudgeAnswer}
 use Rattle.verdict.specs.Judging.{questionRules, bufferRules, CHAIN, judgeRules, judgeSays, Judging, JudgePromise}
-use Rattle.verdict.proofs.Promise.{says-once, judging-once}
-use Rattle.patch.specs.Patching.{patchRules, judgePatchRules, JudgePatchPromise, writtenLength, writeRules, writtenBytes, writeSays, Writing, WritePromise}
+use Rattle.verdict.proofs.Promise.{one-kind, says-once, judging-once}
+use Rattle.patch.specs.Patching.{
+  patchRules,
+  judgePatchRules,
+  JudgePatchPromise,
+  writtenLength,
+  writeRules,
+  writtenBytes,
+  writeSays,
+  Writing,
+  WritePromise,
+}
 use Rattle.patch.specs.declared.WriteAnswer.{WriteAnswer}
 use Rattle.patch.specs.declared.WriteAnswer.the-variants as writing
-use Rattle.patch.proofs.MapRules.{passes-admitted, passes-fits}
-
--- what was put of a listing and a map that fit reads back, node by node and as a whole
-pub put-reads-back : (s map old new : List ℕ) (n : ℕ) → Admitted s → MapFits s map → n ≡ writtenLength s map → new ≡ filled (writtenBytes s map) old
-    → Written s map old new n × (nodesOf (take n new) ≡ patched (nodesOf s) (marksOf map))
-put-reads-back s map old new n e fits en out =
-    let back = written s map fits old new n e en out in
-    let mapped : length (marksOf map) ≤ length (nodesOf s) = omega (arith, marks-length map, nodes-length s, fits .each) in
-    (back, fenced-unique (back .fenced) (patched-fenced (nodesOf s) (marksOf map) mapped))
+use Rattle.patch.proofs.MapRules.{patchedOf, passes-admitted, passes-fits}
+use Rattle.patch.proofs.PutBack.{put-read}
 
 -- a length is answered only where nothing is refused
 length-answered : (f : Refusal) (s map old new : List ℕ) (n : ℕ) → Writing f s map old new (done 0 0 n)
     → (f ≡ passed) × (n ≡ writtenLength s map) × (new ≡ filled (writtenBytes s map) old)
 length-answered passed s map old new n w = (refl, ap (λ (a : Answer). a .count) (w .0), w .1)
-length-answered (refused k p) s map old new n w = let z : _≡_ {A = ℕ} 0 2 = ap (λ (a : Answer). a .kind) (w .0) in absurd (omega arith)
+length-answered (refused k p) s map old new n w = absurd (omega (arith, one-kind (w .0)))
 
 -- what a caller that was answered a length learns: it lies within the listing buffer
 pub length-within : (s map old new : List ℕ) (r : WriteAnswer) (n : ℕ) → WritePromise s map old new (writeSays r) → r ≡ writing.Written n → n ≤ length old
@@ -65,7 +64,8 @@ module _ (s map old new : List ℕ) (n : ℕ) (w : WritePromise s map old new (d
   pub reads-back : Written s map old new n × (nodesOf (take n new) ≡ patched (nodesOf s) (marksOf map))
   reads-back =
       let a = length-answered (firstOf (writeRules s map old)) s map old new n w in
-      put-reads-back s map old new n (passes-admitted s map passes) (passes-fits s map passes) (a .1) (a .2)
+      let fits = passes-fits s map passes in
+      (written s map fits old new n (passes-admitted s map passes) (a .1) (a .2), put-read s map fits old new n (a .1) (a .2))
 
   module _ (q : ℕ) (chain : List ℕ) where
     same-table : firstOf (judgeRules q (take n new) chain) ≡ firstOf (judgePatchRules q s map chain)
@@ -79,5 +79,5 @@ module _ (s map old new : List ℕ) (n : ℕ) (w : WritePromise s map old new (d
         → JudgePatchPromise q s map chain new₁ (judgeSays r₁) → JudgePromise q (take n new) chain new₂ (judgeSays r₂) → (r₁ ≡ r₂) × (new₁ ≡ new₂)
     judge-written new₁ new₂ r₁ r₂ h k =
         let k′ = subst₂ (λ (f : Refusal) (L : Listing). Judging f q L chain new₂ (judgeSays r₂)) same-table (reads-back .1) k in
-        let o = judging-once (firstOf (judgePatchRules q s map chain)) q (patched (nodesOf s) (marksOf map)) chain new₁ new₂ (judgeSays r₁) (judgeSays r₂) h k′ in
+        let o = judging-once (firstOf (judgePatchRules q s map chain)) q (patchedOf s map) chain new₁ new₂ (judgeSays r₁) (judgeSays r₂) h k′ in
         (says-once r₁ r₂ (o .0), o .1)

@@ -1,12 +1,12 @@
 -- What judging with a map, proposing and writing promise: one answer, and one content of every lent buffer.
 use mathlib.Core.Path.{_≡_}
-use mathlib.Core.Bool.{Bool, true, false, not, cond}
+use mathlib.Core.Bool.{Bool, true, false, not}
 use mathlib.Core.List.{List, [], _∷_, _++_}
 use Prim.Native.Nat.{ℕ, suc, _+_}
 use lib.ListN.{length}
 use lib.Dec.{eqb, ltb}
 use Rattle.listing.specs.Limits.{NODES}
-use Rattle.listing.specs.Bytes.{countF, countN, recordAt, nodesOf, bytesOf}
+use Rattle.listing.specs.Bytes.{versionOf, countF, countN, recordAt, nodesOf, bytesOf}
 use Rattle.listing.specs.Rules.{Rule, rule, Refusal, passed, refused, firstOf}
 use Rattle.listing.specs.Read.{readRules}
 use Rattle.listing.specs.Answer.{Answer, done, refusal, filled}
@@ -14,8 +14,6 @@ use Rattle.order.specs.Patched.{Marks, places, patched}
 use Rattle.order.specs.Proposed.{Proposed}
 use Rattle.verdict.specs.Judging.{questionRules, bufferRules, CHAIN, Judging}
 use Rattle.fencing.specs.Marks.{marksOf}
-use Rattle.patch.specs.declared.Checked.{Checked}
-use Rattle.patch.specs.declared.Checked.the-variants as checking
 use Rattle.patch.specs.declared.ProposeAnswer.{ProposeAnswer}
 use Rattle.patch.specs.declared.ProposeAnswer.the-variants as proposing
 use Rattle.patch.specs.declared.WriteAnswer.{WriteAnswer}
@@ -98,7 +96,7 @@ writeRules s map out = patchRules s map ++ bufferRules (writtenLength s map) out
 
 -- the patched listing's bytes: "Version and F stay"
 abbrev pub writtenBytes : List ℕ → List ℕ → List ℕ
-writtenBytes s map = bytesOf (countF s) (patched (nodesOf s) (marksOf map))
+writtenBytes s map = bytesOf (versionOf s) (countF s) (patched (nodesOf s) (marksOf map))
 
 abbrev pub Writing : Refusal → List ℕ → List ℕ → List ℕ → List ℕ → Answer → Type 0
 Writing passed s map old new r = (r ≡ done 0 0 (writtenLength s map)) × (new ≡ filled (writtenBytes s map) old)

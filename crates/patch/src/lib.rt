@@ -6,7 +6,7 @@ ghost use lib.ListN.{length};
 ghost use Rattle.listing.specs.Bytes.{nodesOf};
 ghost use Rattle.listing.specs.Inner.Whole.{Whole};
 ghost use Rattle.listing.specs.Rules.{firstOf};
-ghost use Rattle.listing.specs.Read.{Admitted};
+ghost use Rattle.order.specs.Need.{Asked};
 ghost use Rattle.order.specs.Patched.{patched};
 ghost use Rattle.verdict.specs.Judging.{bufferRules, CHAIN, judgeSays, Told};
 ghost use Rattle.fencing.specs.Marks.{marksOf};
@@ -88,15 +88,13 @@ pub fn check(bytes: &[u8], map: &[u8]) -> Checked
     }
 }
 
-// What the longest listing has: its heading, and a record for every node.
-const LONGEST: usize = Listing::HEADING + Listing::RECORD * Listing::NODES;
-
-// The verdict with a map, of a listing and a map that passed: that of the patched listing.
+// The verdict with a map that fits its listing: that of the patched listing.
 fn judge_checked(question: u8, bytes: &[u8], map: &[u8], chain: &mut [u8]) -> JudgeAnswer
-    requires { ⌜ (1 ≤ question) × (question ≤ 4) × Admitted (now bytes) × MapFits (now bytes) (now map) × (CHAIN ≤ length (now chain)) ⌝ }
-    ensures { λ r. ⌜ Told question (patched (nodesOf (now (bytes .entry))) (marksOf (now (map .entry)))) (now (chain .entry)) (now (chain .exit)) (judgeSays r) ⌝ }
+    requires { ⌜ Asked question × MapFits (now bytes) (now map) × (CHAIN ≤ length (now chain)) ⌝ }
+    ensures { λ r. ⌜ Told question (patched (nodesOf (now (bytes .entry))) (marksOf (now (map .entry))))
+        (now (chain .entry)) (now (chain .exit)) (judgeSays r) ⌝ }
 {
-    let mut written = [0u8; LONGEST];
+    let mut written = [0u8; Listing::LONGEST];
     let length = fencing::put_patched(bytes, map, &mut written);
     verdict::decide(question, &written[..length], chain)
 }

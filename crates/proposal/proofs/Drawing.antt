@@ -14,24 +14,23 @@ use Rattle.listing.specs.Bytes.{countN, nodesOf}
 use Rattle.listing.proofs.Nodes.{nodes-length}
 use Rattle.order.specs.Verdict.{Fails}
 use Rattle.order.specs.Proposed.{Proposed}
-use Rattle.failing.specs.Inner.First.{SecondFailing}
-use Rattle.failing.proofs.Needing.{failing-in}
+use Rattle.rows.specs.Inner.Least.{Least}
+use Rattle.failing.proofs.Searching.{failing-in}
 use Rattle.fencing.specs.Marks.{isMark, marksOf}
 use Rattle.fencing.proofs.Marks.{marks-length, marks-at}
 use Rattle.proposal.specs.Inner.Marking.{MarkOf, Marked, Drawn}
 
 -- ── One mark ────────────────────────────────────────────────────────────────
-module _ (q : ℕ) (L : Listing) (n a r : ℕ) (second : SecondFailing q L n a r) where
+module _ (q : ℕ) (L : Listing) (n a r : ℕ) (size : n ≡ length L) (second : Least (Fails q L a) 0 n r) where
   pub marks-it : r < n → MarkOf q L a 1
   marks-it h = inl (refl, (r, second .here h))
 
   pub leaves-it : n ≤ r → MarkOf q L a 0
-  leaves-it h =
-      let e : r ≡ n = omega (arith, second .low) in
-      inr (refl, second .none e)
+  leaves-it h = inr (refl, λ b f. second .none b (omega arith) (omega (arith, failing-in q L a b f .1)) f)
 
 -- one mark more
-pub one-drawn : (q : ℕ) (L : Listing) (marks : List ℕ) (a x : ℕ) → a < length marks → Marked q L marks a → MarkOf q L a x → Marked q L (set marks a x) (a + 1)
+pub one-drawn : (q : ℕ) (L : Listing) (marks : List ℕ) (a x : ℕ) → a < length marks → Marked q L marks a → MarkOf q L a x
+    → Marked q L (set marks a x) (a + 1)
 one-drawn q L marks a x h m o =
     below-more (λ k. MarkOf q L k (getD (set marks a x) k 0)) a
     (λ k l. subst (MarkOf q L k) (sym (getD-set-other marks a k x 0 (λ e. omega arith))) (m k l))
@@ -68,7 +67,9 @@ module _ (q : ℕ) (s marks : List ℕ) (n : ℕ) (count : n ≡ countN s) (room
   pub drawn-proposed : Proposed q (nodesOf s) (marksOf (take n marks))
   drawn-proposed = record {
     size = marks-length (take n marks) ∙ taken ∙ count ∙ sym (nodes-length s);
-    serves = λ a b f. marks-at (take n marks) a ∙ serves a b (getD (take n marks) a 0) f (at a (omega (arith, failing-in q (nodesOf s) a b f .0, nodes-length s)));
+    serves = λ a b f.
+        let low : a < n = omega (arith, failing-in q (nodesOf s) a b f .0, nodes-length s) in
+        marks-at (take n marks) a ∙ serves a b (getD (take n marks) a 0) f (at a low);
     spares = λ a e. go a (sym (marks-at (take n marks) a) ∙ e) (decLt a n);
   }
     where

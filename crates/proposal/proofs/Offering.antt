@@ -3,11 +3,8 @@ use mathlib.Core.Path.{_≡_, refl, sym, ap, ap₂, _∙_, subst}
 use mathlib.Core.Bool.{true, false}
 use mathlib.Core.List.{List, [], _∷_}
 use Prim.Native.Nat.{ℕ, zero, suc, _+_, _≤_, _<_}
-use native.Mathlib.Numerals.{add-one}
 use native.Mathlib.Omega.{arith}
-use borrow.Author.Tests.{lt-ltb, le-ltb}
-use lib.ListN.{length, getD, drop, set, drop-of-length-le}
-use lib.Seq.{sets}
+use lib.ListN.{length, getD}
 use Rattle.listing.specs.Limits.{NODES}
 use Rattle.listing.specs.Bytes.{countN}
 use Rattle.listing.specs.Rules.{Refusal, passed, refused, firstOf}
@@ -16,19 +13,12 @@ use Rattle.listing.specs.Answer.{Answer, done, refusal, filled}
 use Rattle.listing.proofs.Table.{pass, stop}
 use Rattle.order.specs.Patched.{places}
 use Rattle.fencing.specs.Marks.{isMark, marksOf}
-use Rattle.fencing.proofs.Marks.{next}
 use Rattle.verdict.specs.Judging.{wrongQuestion, bufferRules}
-use Rattle.verdict.proofs.Refusing.{row-applies, row-passes, question-stops, question-passes, buffer-stops, buffer-passes}
+use Rattle.verdict.proofs.Refusing.{question-stops, question-passes, buffer-stops, buffer-passes}
 use Rattle.patch.specs.Patching.{fitRules, mapByte, mapBytes, askRules, offerRules, Offered, Proposing, ProposePromise}
+use Rattle.patch.specs.Accepting.{Fits}
+use Rattle.patch.proofs.MapRules.{fit-stops, fit-passes}
 use Rattle.proposal.specs.Inner.Marking.{Drawn}
-
--- ── Copying, byte by byte ───────────────────────────────────────────────────
-module _ (from to : List ℕ) (i : ℕ) {goal : List ℕ} (inv : sets to i (drop i from) ≡ goal) where
-  pub byte-copied : i < length from → sets (set to i (getD from i 0)) (i + 1) (drop (i + 1) from) ≡ goal
-  byte-copied h = rw (add-one i) (ap (sets to i) (sym (next from i 0 h ∙ ap (λ (k : ℕ). getD from i 0 ∷ drop k from) (add-one i))) ∙ inv)
-
-  pub all-copied : length from ≤ i → to ≡ goal
-  all-copied h = ap (sets to i) (sym (drop-of-length-le from {i = i} h)) ∙ inv
 
 -- ── The bytes of a map are those of its marks ───────────────────────────────
 mark-byte : (x : ℕ) → x ≤ 1 → mapByte (isMark x) ≡ x
@@ -36,36 +26,39 @@ mark-byte zero h = refl
 mark-byte (suc zero) h = refl
 mark-byte (suc (suc x)) h = absurd (omega arith)
 
-pub marks-bytes : (l : List ℕ) → ((a : ℕ) → a < length l → getD l a 0 ≤ 1) → mapBytes (marksOf l) ≡ l
+marks-bytes : (l : List ℕ) → ((a : ℕ) → a < length l → getD l a 0 ≤ 1) → mapBytes (marksOf l) ≡ l
 unfolding marksOf
 marks-bytes [] h = refl
-marks-bytes (x ∷ xs) h = ap₂ (λ (y : ℕ) (ys : List ℕ). y ∷ ys) (mark-byte x (h 0 (omega arith))) (marks-bytes xs (λ a l. h (suc a) (omega arith)))
+marks-bytes (x ∷ xs) h =
+    ap₂ (λ (y : ℕ) (ys : List ℕ). y ∷ ys) (mark-byte x (h 0 (omega arith))) (marks-bytes xs (λ a l. h (suc a) (omega arith)))
 
 -- ── Rules 15 and 16, and what is written ────────────────────────────────────
 module _ (s marks old new : List ℕ) where
-  as-refused : (r : Answer) (g : Refusal) → firstOf (offerRules s (marksOf marks) old) ≡ g → Offered g (marksOf marks) old new r
-      → Offered (firstOf (offerRules s (marksOf marks) old)) (marksOf marks) old new r
+  abbrev table : Refusal
+  table = firstOf (offerRules s (marksOf marks) old)
+
+  as-refused : (r : Answer) (g : Refusal) → table ≡ g → Offered g (marksOf marks) old new r → Offered table (marksOf marks) old new r
   as-refused r g e o = subst (λ (f : Refusal). Offered f (marksOf marks) old new r) (sym e) o
 
-  past-15 : countN s + places (marksOf marks) ≤ NODES → firstOf (offerRules s (marksOf marks) old) ≡ firstOf (bufferRules (countN s) old)
+  by-15 : NODES < countN s + places (marksOf marks) → table ≡ refused 15 0
   unfolding offerRules
-  past-15 h = pass (fitRules s (marksOf marks)) (bufferRules (countN s) old) (row-passes _ 15 0 (le-ltb NODES (countN s + places (marksOf marks)) h))
+  by-15 h = stop (fitRules s (marksOf marks)) (bufferRules (countN s) old) 15 0 (fit-stops s (marksOf marks) h)
 
-  by-15 : NODES < countN s + places (marksOf marks) → firstOf (offerRules s (marksOf marks) old) ≡ refused 15 0
-  unfolding offerRules
-  by-15 h = stop (fitRules s (marksOf marks)) (bufferRules (countN s) old) 15 0 (row-applies _ 15 0 (lt-ltb NODES (countN s + places (marksOf marks)) h))
-
-  pub offer-15 : NODES < countN s + places (marksOf marks) → new ≡ old → Offered (firstOf (offerRules s (marksOf marks) old)) (marksOf marks) old new (refusal 15 0)
+  pub offer-15 : NODES < countN s + places (marksOf marks) → new ≡ old → Offered table (marksOf marks) old new (refusal 15 0)
   offer-15 h e = as-refused (refusal 15 0) (refused 15 0) (by-15 h) (refl, e)
 
-  module _ (fits : countN s + places (marksOf marks) ≤ NODES) where
-    pub offer-16 : length old < countN s → new ≡ old → Offered (firstOf (offerRules s (marksOf marks) old)) (marksOf marks) old new (refusal 16 0)
-    offer-16 h e = as-refused (refusal 16 0) (refused 16 0) (past-15 fits ∙ buffer-stops (countN s) old h) (refl, e)
+  module _ (fits : Fits s (marksOf marks)) where
+    past-15 : table ≡ firstOf (bufferRules (countN s) old)
+    unfolding offerRules
+    past-15 = pass (fitRules s (marksOf marks)) (bufferRules (countN s) old) (fit-passes s (marksOf marks) fits)
+
+    pub offer-16 : length old < countN s → new ≡ old → Offered table (marksOf marks) old new (refusal 16 0)
+    offer-16 h e = as-refused (refusal 16 0) (refused 16 0) (past-15 ∙ buffer-stops (countN s) old h) (refl, e)
 
     pub offered : (k : ℕ) → countN s ≤ length old → Drawn s marks → k ≡ places (marksOf marks) → new ≡ filled marks old
-        → Offered (firstOf (offerRules s (marksOf marks) old)) (marksOf marks) old new (done 0 0 k)
+        → Offered table (marksOf marks) old new (done 0 0 k)
     offered k h drawn ek e =
-        as-refused (done 0 0 k) passed (past-15 fits ∙ buffer-passes (countN s) old h)
+        as-refused (done 0 0 k) passed (past-15 ∙ buffer-passes (countN s) old h)
         (rw ek, e ∙ ap (λ (l : List ℕ). filled l old) (sym (marks-bytes marks (drawn .bytes))))
 
 -- ── What is refused before there is a map to write ──────────────────────────

@@ -1,14 +1,12 @@
 // Proposing a map: a fence after the first node of every failing pair.
 ghost use Prim.Native.Nat.{_<_, _≤_};
-ghost use mathlib.Core.Path.{_≡_};
 ghost use lib.ListN.{length};
 ghost use Rattle.listing.specs.Bytes.{countN, nodesOf};
 ghost use Rattle.listing.specs.Inner.Whole.{Whole};
 ghost use Rattle.listing.specs.Rules.{passed, firstOf};
-ghost use Rattle.listing.specs.Read.{Admitted};
-ghost use Rattle.listing.specs.Answer.{filled};
 ghost use Rattle.fencing.specs.Marks.{marksOf};
-ghost use Rattle.failing.specs.Inner.First.{Prepared};
+ghost use Rattle.order.specs.Need.{Asked};
+ghost use Rattle.failing.specs.Inner.Failing.{Prepared};
 ghost use Rattle.patch.specs.Patching.{proposeSays, offerRules, Offered, Proposing, ProposePromise};
 ghost use Rattle.proposal.specs.Inner.Marking.{MarkOf, Marked, Drawn};
 use listing::Listing;
@@ -22,7 +20,7 @@ fn mark_of(question: u8, bytes: &[u8], c: &[u64; WORDS], i: &[u64; WORDS], a: us
     ensures { λ r. ⌜ MarkOf question (nodesOf (now (bytes .entry))) a r ⌝ }
 {
     let n = listing::node_count(bytes);
-    if failing::second_failing(question, bytes, c, i, a) < n {
+    if failing::second_failing(question, bytes, c, i, a, 0) < n {
         return 1;
     }
     0
@@ -37,17 +35,6 @@ fn draw(question: u8, bytes: &[u8], c: &[u64; WORDS], i: &[u64; WORDS], marks: &
     for a in 0..n {
         let mark = mark_of(question, bytes, c, i, a);
         marks[a] = mark;
-    }
-}
-
-// Copies `from` to the start of `to`.
-fn copy(from: &[u8], to: &mut [u8])
-    requires { ⌜ length (now from) ≤ length (now to) ⌝ }
-    ensures { λ _. ⌜ now (to .exit) ≡ filled (now (from .entry)) (now (to .entry)) ⌝ }
-{
-    let n = from.len();
-    for i in 0..n {
-        to[i] = from[i];
     }
 }
 
@@ -72,13 +59,13 @@ fn offer(bytes: &[u8], marks: &[u8], map: &mut [u8]) -> ProposeAnswer
             place: 0,
         };
     }
-    copy(marks, map);
+    listing::copy(marks, map);
     ProposeAnswer::Proposed { places }
 }
 
-// The proposal for a listing that was admitted.
+// The proposal for a listing whose records are all there.
 fn propose_for(question: u8, bytes: &[u8], map: &mut [u8]) -> ProposeAnswer
-    requires { ⌜ (1 ≤ question) × (question ≤ 4) × Admitted (now bytes) ⌝ }
+    requires { ⌜ Asked question × Whole (now bytes) ⌝ }
     ensures { λ r. ⌜ Proposing passed question (now (bytes .entry)) (now (map .entry)) (now (map .exit)) (proposeSays r) ⌝ }
 {
     let mut p = [0u64; WORDS];
@@ -86,8 +73,7 @@ fn propose_for(question: u8, bytes: &[u8], map: &mut [u8]) -> ProposeAnswer
     let mut c = [0u64; WORDS];
     let mut i = [0u64; WORDS];
     let mut marks = [0u8; Listing::NODES];
-    suspects::suspects(question, bytes, &mut p, &mut m, &mut c);
-    suspects::exchanged_rows(bytes, &p, &mut i);
+    failing::prepare(question, bytes, &mut p, &mut m, &mut c, &mut i);
     draw(question, bytes, &c, &i, &mut marks);
     let n = listing::node_count(bytes);
     offer(bytes, &marks[..n], map)

@@ -3,15 +3,11 @@ use libc::STDIN_FILENO;
 use listing::Listing;
 
 fn main() {
+    let question = say::question();
     let mut input = [0u8; say::INPUT];
     let n = io::read_full(STDIN_FILENO, &mut input);
-    if n == 0 {
-        say::refused(1, 0);
-        return;
-    }
-    let question = listing::wide(input[0]) as u64;
     // Beyond the listing's nodes the map keeps its zeros, and so has no place.
     let mut map = [0u8; Listing::NODES];
-    let answer = proposal::propose(question, &input[1..n], &mut map);
+    let answer = proposal::propose(question, &input[..n], &mut map);
     say::proposed(answer, &map);
 }

@@ -1,5 +1,5 @@
 pub mod Rounds
-pub mod Ways
+pub mod Trails
 pub mod Loading
 pub mod Sweeps
 pub mod Steps

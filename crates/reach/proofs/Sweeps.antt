@@ -1,24 +1,22 @@
 -- Walks by sweeps: rows that have every link and nothing but walks stay so, and where they are settled they have every walk.
-use mathlib.Core.Path.{_≡_, sym, subst, _∙_}
-use mathlib.Core.Bool.{Bool, true, false, not}
+use mathlib.Core.Path.{_≡_, refl, sym, subst, _∙_}
+use mathlib.Core.Bool.{Bool, true, false}
 use mathlib.Core.Logic.{_⊎_, inl, inr, ⊎-elim}
 use mathlib.Core.List.{List, [], _∷_, _++_}
 use Prim.Native.Nat.{ℕ, _+_, _≤_, _<_}
 use native.Mathlib.Omega.{arith}
-use native.Mathlib.Decide.{decLt, ℕ-discrete}
+use borrow.Author.Count.{below-more}
 use lib.ListN.{length}
 use Rattle.listing.specs.Node.{Listing, node}
 use Rattle.order.specs.Rows.{All, Row}
 use Rattle.order.specs.Walks.{Next, Succ, Walk}
-use Rattle.order.proofs.Lists.{row-join}
-use Rattle.rows.specs.Inner.Rows.{Has, Holds, Link}
-use Rattle.rows.specs.Inner.Touched.{Poured}
+use Rattle.order.proofs.Lists.{row-join, row-map}
+use Rattle.rows.specs.Inner.Rows.{Vouches, Has, Holds, Link}
+use Rattle.rows.specs.Inner.Touched.{Poured, Covers}
 use Rattle.reach.specs.Inner.Whole.{Through}
 use Rattle.reach.specs.Inner.Links.{Walked, Begun, Pulled, Calm, Settled}
-use Rattle.rows.specs.Inner.Rows.{Vouches}
-use Rattle.rows.specs.Inner.Touched.{Covers}
-use Rattle.rows.proofs.Rows.{poured-gives, poured-keeps}
-use Rattle.reach.proofs.Loading.{row-map}
+use Rattle.rows.proofs.Places.{row-or-rest}
+use Rattle.rows.proofs.OneRow.{poured-gives, poured-keeps}
 
 all-join : (P : ℕ → Type 0) (xs : List ℕ) (c : ℕ) (ys : List ℕ) → All P xs → P c → All P ys → All P (xs ++ (c ∷ ys))
 all-join P [] c ys f p g = (p, g)
@@ -30,17 +28,12 @@ pub pulled-none : (m w : List ℕ) (n a b : ℕ) → Pulled m w w n a b
 pulled-none m w n a b = record { gives = λ x y hy h. inl h; keeps = λ x y hy h. h }
 
 pub pulled-or : (m w v : List ℕ) (n a k : ℕ) → k < n → Has m 0 k → Poured w w v a k → Pulled m w v n a k
-pulled-or m w v n a k hk hm p = record { gives = λ x y hy h. by x y hy h (ℕ-discrete x a); keeps = λ x y hy h. poured-keeps w w v a k x y p hy h }
-  where
-    by : (x y : ℕ) → y < 128 → Has v x y → Dec (x ≡ a) → Has w x y ⊎ ((x ≡ a) × (k < n) × Has m 0 k × Has w k y)
-    by x y hy h (yes e) =
-        ⊎-elim (λ q. inl (subst (λ (z : ℕ). Has w z y) (sym e) q)) (λ q. inr (e, hk, hm, q))
-        (poured-gives w w v a k y p hy (subst (λ (z : ℕ). Has v z y) e h))
-    by x y hy h (no e) = inl (sym (p .rest x y hy e) ∙ h)
-
-pub vouched : (A : Type 0) (r : Bool) → not r ≡ false → Vouches r A → A
-vouched A true e v = v
-vouched A false e v = let z : _≡_ {A = ℕ} 0 1 = cc in absurd (omega arith)
+pulled-or m w v n a k hk hm p =
+    record {
+      gives = λ x y hy. row-or-rest (λ x. Has v x y → Has w x y ⊎ ((x ≡ a) × (k < n) × Has m 0 k × Has w k y)) a
+          (λ h. ⊎-elim inl (λ q. inr (refl, hk, hm, q)) (poured-gives w w v a k p y hy h)) (λ x e h. inl (sym (p .rest x y hy e) ∙ h)) x;
+      keeps = poured-keeps w w v a k p;
+    }
 
 pub calm-of : (m w : List ℕ) (n a k b : ℕ) (r : Bool) → k ≡ b → Vouches r (Covers w a k) → Vouches r (Calm m w n a b)
 calm-of m w n a k b true e v = λ l h. subst (λ (z : ℕ). Covers w a z) e v
@@ -50,18 +43,13 @@ calm-of m w n a k b false e v = tt
 abbrev pub Calms : Listing → List ℕ → List ℕ → ℕ → ℕ → Type 0
 Calms L m w n k = (a b : ℕ) → a < k → Next (node L a) b → Calm m w n a b
 
-pub calms-more : (L : Listing) (m w : List ℕ) (n k : ℕ) → Calms L m w n k → Calm m w n k (node L k .first) → Calm m w n k (node L k .second) → Calms L m w n (k + 1)
-calms-more L m w n k g p q a b ha s = by (decLt a k)
+pub calms-more : (L : Listing) (m w : List ℕ) (n k : ℕ) → Calms L m w n k
+    → Calm m w n k (node L k .first) → Calm m w n k (node L k .second) → Calms L m w n (k + 1)
+calms-more L m w n k g p q a b = below-more (λ a. Next (node L a) b → Calm m w n a b) k (λ a h s. g a b h s) here a
   where
     here : Next (node L k) b → Calm m w n k b
     here (inl e) = subst (Calm m w n k) e p
     here (inr e) = subst (Calm m w n k) e q
-
-    by : Dec (a < k) → Calm m w n a b
-    by (yes h) = g a b h s
-    by (no h) =
-        let e : a ≡ k = omega arith in
-        subst (λ (z : ℕ). Calm m w n z b) (sym e) (here (subst (λ (z : ℕ). Next (node L z) b) e s))
 
 -- ---- walks
 
@@ -114,7 +102,7 @@ module _ (L : Listing) (m : List ℕ) (n : ℕ) (hn : n ≤ 128) (size : length 
   closed-walks w v g c =
       record {
         sound = λ a b hb h. (let r = c .sound a b hb h in let t = r .2 in (r .0, r .1, join a b (t .0) (t .1) (t .2)));
-        whole = λ a b ha hb p. c .whole a b ha hb (p .0, row-map from a (p .0) b (p .1), p .2);
+        whole = λ a b ha hb p. c .whole a b ha hb (p .0, row-map (Succ L) (Link n w) from a (p .0) b (p .1), p .2);
       }
     where
       step : (a b : ℕ) → Link n w a b → Walked L m a b

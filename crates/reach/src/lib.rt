@@ -2,7 +2,8 @@
 ghost use Prim.Native.Nat.{_+_, _*_, _<_, _≤_};
 ghost use lib.ListN.{length};
 ghost use Rattle.rows.specs.Inner.Rows.{Vouches, Holds, Low};
-ghost use Rattle.reach.specs.Inner.Whole.{Through, Then, Turned, From, To, Among, Away, Passed, Pouring, Turning};
+ghost use Rattle.rows.specs.Inner.Growing.{RowGrown};
+ghost use Rattle.reach.specs.Inner.Whole.{Through, Then, Converse, StartsIn, EndsIn, Among, Away, Passed, Turning};
 ghost use Rattle.reach.specs.Inner.Links.{Linked, Walked, Calm, Pulled, Settled, Begun};
 ghost use Rattle.listing.specs.Bytes.{countN, nodesOf};
 ghost use Rattle.listing.specs.Inner.Whole.{Whole};
@@ -45,7 +46,7 @@ fn link(n: usize, w: &mut [u64], a: usize, b: u8)
 }
 
 // The links of a listing.
-pub fn links(bytes: &[u8], w: &mut [u64; WORDS])
+fn links(bytes: &[u8], w: &mut [u64; WORDS])
     requires { ⌜ Whole (now bytes) ⌝ }
     ensures { λ _. ⌜ Holds (now (w .exit)) (countN (now (bytes .entry))) (Succ (nodesOf (now (bytes .entry)))) ⌝ }
 {
@@ -138,8 +139,8 @@ pub fn walks(bytes: &[u8], m: &[u64; 2], w: &mut [u64; WORDS])
 
 // Puts into row x of v what is two steps away, by r and then by w.
 fn compose_row(n: usize, r: &[u64; WORDS], w: &[u64; WORDS], v: &mut [u64; WORDS], x: usize)
-    requires { ⌜ (n ≤ 128) × (x < n) ⌝ }
-    ensures { λ _. ⌜ Pouring (now (r .entry)) (now (w .entry)) (now (v .entry)) (now (v .exit)) x n ⌝ }
+    requires { ⌜ (n ≤ 128) × (x < n) × Low n (now w) ⌝ }
+    ensures { λ _. ⌜ RowGrown (Then n (now (r .entry)) (now (w .entry))) (now (v .entry)) (now (v .exit)) x n ⌝ }
 {
     let mut c = rows::next(r, x, 0, n);
     while c < n {
@@ -179,7 +180,7 @@ fn turn_row(n: usize, w: &[u64; WORDS], v: &mut [u64; WORDS], a: usize)
 // The relation turned round.
 pub fn turn(n: usize, w: &[u64; WORDS], v: &mut [u64; WORDS])
     requires { ⌜ (n ≤ 128) × Low n (now w) ⌝ }
-    ensures { λ _. ⌜ Holds (now (v .exit)) n (Turned (now (w .entry))) ⌝ }
+    ensures { λ _. ⌜ Holds (now (v .exit)) n (Converse (now (w .entry))) ⌝ }
 {
     rows::clear(v);
     for a in 0..n {
@@ -188,9 +189,9 @@ pub fn turn(n: usize, w: &[u64; WORDS], v: &mut [u64; WORDS])
 }
 
 // Keeps what ends in s.
-pub fn keep_columns(n: usize, s: &[u64; 2], w: &mut [u64; WORDS])
+fn keep_columns(n: usize, s: &[u64; 2], w: &mut [u64; WORDS])
     requires { ⌜ (n ≤ 128) × Low n (now w) ⌝ }
-    ensures { λ _. ⌜ Holds (now (w .exit)) n (To (now (s .entry)) (now (w .entry))) ⌝ }
+    ensures { λ _. ⌜ Holds (now (w .exit)) n (EndsIn (now (s .entry)) (now (w .entry))) ⌝ }
 {
     for a in 0..n {
         rows::sift(s, 0, w, a);
@@ -198,9 +199,9 @@ pub fn keep_columns(n: usize, s: &[u64; 2], w: &mut [u64; WORDS])
 }
 
 // Keeps what starts in s.
-pub fn keep_rows(n: usize, s: &[u64; 2], w: &mut [u64; WORDS])
+fn keep_rows(n: usize, s: &[u64; 2], w: &mut [u64; WORDS])
     requires { ⌜ (n ≤ 128) × Low n (now w) ⌝ }
-    ensures { λ _. ⌜ Holds (now (w .exit)) n (From (now (s .entry)) (now (w .entry))) ⌝ }
+    ensures { λ _. ⌜ Holds (now (w .exit)) n (StartsIn (now (s .entry)) (now (w .entry))) ⌝ }
 {
     for a in 0..n {
         if !rows::has(s, 0, a) {
@@ -221,11 +222,13 @@ pub fn restrict(n: usize, s: &[u64; 2], w: &mut [u64; WORDS])
 // What ends in s, into v.
 pub fn columns(n: usize, s: &[u64; 2], w: &[u64; WORDS], v: &mut [u64; WORDS])
     requires { ⌜ (n ≤ 128) × Low n (now w) ⌝ }
-    ensures { λ _. ⌜ Holds (now (v .exit)) n (To (now (s .entry)) (now (w .entry))) ⌝ }
+    ensures { λ _. ⌜ Holds (now (v .exit)) n (EndsIn (now (s .entry)) (now (w .entry))) ⌝ }
 {
     rows::clear(v);
-    rows::add_all(w, v);
-    keep_columns(n, s, v);
+    for a in 0..n {
+        rows::pour(w, a, v, a);
+        rows::sift(s, 0, v, a);
+    }
 }
 
 // Keeps what leads elsewhere.

@@ -4,12 +4,12 @@ use Prim.Native.Nat.{ℕ, zero, suc, _+_, _-_, _*_, _/_, _%_, _^_, _≤_, _<_, m
 use native.Mathlib.Nat.{one-mul, pow-suc, div-eq-of-lt, mul-mod-left, lt-of-lt-of-le, lt-of-le-of-lt}
 use native.Mathlib.Omega.{arith}
 use native.Mathlib.Numerals.{one-add}
-use native.Mathlib.Decide.{decLt, ℕ-discrete}
+use native.Mathlib.Decide.{decLt}
 use lib.Pow.{pow-pos, pow-lt, pow-mono, pow-add, shl-exact, shl-shr, shr-shr, shr-le}
 use lib.Count.{trailingZeros, under}
 use lib.Bits.{bitOr, bitAnd, bitXor, differ, or-step, or-shr, and-step, and-shr, xor-step, xor-shr, and-lt}
-use Rattle.rows.specs.Inner.Rows.{bit}
-use Rattle.rows.specs.Inner.Touched.{Lowest}
+use Rattle.rows.specs.Inner.Rows.{bit, IsSet}
+use Rattle.rows.specs.Inner.Least.{Least}
 
 low-or : (x y : ℕ) → bitOr x y % 2 ≡ max (x % 2) (y % 2)
 low-or x y = omega (arith, or-step x y)
@@ -98,38 +98,6 @@ pub bit-zero : (i : ℕ) → bit 0 i ≡ 0
 unfolding bit
 bit-zero i = ap (λ (u : ℕ). u % 2) (div-eq-of-lt (pow-pos i))
 
--- some bit of it is set
-some-bit : (k z : ℕ) → z < 2 ^ k → (z ≡ 0 → ⊥) → (i : ℕ) × (i < k) × (bit z i ≡ 1)
-unfolding bit
-some-bit zero z h ne = absurd (ne (omega arith))
-some-bit (suc k) z h ne = by (ℕ-discrete (z % 2) 1) (λ n. some-bit k (z / 2) (omega (arith, pow-suc 2 k)) n)
-  where
-    by : Dec (z % 2 ≡ 1) → ((z / 2 ≡ 0 → ⊥) → (i : ℕ) × (i < k) × (bit (z / 2) i ≡ 1)) → (i : ℕ) × (i < suc k) × (bit z i ≡ 1)
-    by (yes e) rec = (zero, omega arith, omega arith)
-    by (no e) rec =
-        let r = rec (λ q. ne (omega arith)) in
-        let i = r .0 in
-        let hi = r .1 in
-        (suc i, omega arith, ap (λ (u : ℕ). u % 2) (ap (λ (u : ℕ). z / 2 ^ u) (sym (one-add i)) ∙ sym (shr-shr z 1 i)) ∙ r .2)
-
--- two words with a bit in common, and with none
-pub common-bit : (x y : ℕ) → x < 2 ^ 64 → y < 2 ^ 64 → (bitAnd x y ≡ 0 → ⊥) → (i : ℕ) × (i < 64) × (bit x i ≡ 1) × (bit y i ≡ 1)
-common-bit x y hx hy ne =
-    let p = some-bit 64 (bitAnd x y) (and-lt 64 x y hx hy) ne in
-    let b = p .2 in
-    let c = bit-and x y (p .0) in
-    let lx = bit-le x (p .0) in
-    let ly = bit-le y (p .0) in
-    (p .0, p .1, omega arith, omega arith)
-
-pub no-common : (x y i : ℕ) → bitAnd x y ≡ 0 → bit x i ≡ 1 → bit y i ≡ 1 → ⊥
-no-common x y i e a b =
-    let c = bit-and x y i in
-    let z : bit (bitAnd x y) i ≡ 0 = ap (λ (u : ℕ). bit u i) e ∙ bit-zero i in
-    omega arith
-
--- ---- the lowest bit
-
 bit-half : (n i : ℕ) → bit n (suc i) ≡ bit (n / 2) i
 unfolding bit
 bit-half n i = ap (λ (u : ℕ). u % 2) (ap (λ (u : ℕ). n / 2 ^ u) (sym (one-add i)) ∙ sym (shr-shr n 1 i))
@@ -138,11 +106,11 @@ bit-shifted : (x b i : ℕ) → bit (x / 2 ^ b) i ≡ bit x (b + i)
 unfolding bit
 bit-shifted x b i = ap (λ (u : ℕ). u % 2) (shr-shr x b i)
 
-bit-high : (x i : ℕ) → x < 2 ^ 64 → 64 ≤ i → bit x i ≡ 0
+bit-high : (k x i : ℕ) → x < 2 ^ k → k ≤ i → bit x i ≡ 0
 unfolding bit
-bit-high x i h l = ap (λ (z : ℕ). z % 2) (div-eq-of-lt (lt-of-lt-of-le h (pow-mono l)))
+bit-high k x i h l = ap (λ (z : ℕ). z % 2) (div-eq-of-lt (lt-of-lt-of-le h (pow-mono l)))
 
--- the bit above the trailing zeros is set
+-- its bit above the trailing zeros is set
 zeros-set : (k n : ℕ) → n < 2 ^ k → (n ≡ 0 → ⊥) → bit n (trailingZeros k n) ≡ 1
 unfolding trailingZeros bit
 zeros-set zero n h ne = absurd (ne (omega arith))
@@ -158,10 +126,37 @@ unfolding trailingZeros bit
 zeros-below zero n z h b = omega arith
 zeros-below (suc k) n z h b = by (n % 2) refl z h b (λ y. zeros-below k (n / 2) y)
   where
-    by : (d : ℕ) → n % 2 ≡ d → (z : ℕ) → z < under d (trailingZeros k (n / 2)) → bit n z ≡ 1 → ((y : ℕ) → y < trailingZeros k (n / 2) → bit (n / 2) y ≡ 1 → ⊥) → ⊥
+    by : (d : ℕ) → n % 2 ≡ d → (z : ℕ) → z < under d (trailingZeros k (n / 2)) → bit n z ≡ 1
+        → ((y : ℕ) → y < trailingZeros k (n / 2) → bit (n / 2) y ≡ 1 → ⊥) → ⊥
     by zero e zero h b rec = omega arith
     by zero e (suc z) h b rec = rec z (omega arith) (sym (bit-half n z) ∙ b)
     by (suc d) e z h b rec = omega arith
+
+some-bit : (k z : ℕ) → z < 2 ^ k → (z ≡ 0 → ⊥) → (i : ℕ) × (i < k) × (bit z i ≡ 1)
+some-bit k z h ne = (trailingZeros k z, below (decLt (trailingZeros k z) k), zeros-set k z h ne)
+  where
+    below : Dec (trailingZeros k z < k) → trailingZeros k z < k
+    below (yes l) = l
+    below (no l) = absurd (omega (arith, bit-high k z (trailingZeros k z) h (omega arith), zeros-set k z h ne))
+
+-- ---- two words with a bit in common, and with none
+
+pub common-bit : (x y : ℕ) → x < 2 ^ 64 → y < 2 ^ 64 → (bitAnd x y ≡ 0 → ⊥) → (i : ℕ) × (i < 64) × (bit x i ≡ 1) × (bit y i ≡ 1)
+common-bit x y hx hy ne =
+    let p = some-bit 64 (bitAnd x y) (and-lt 64 x y hx hy) ne in
+    let b = p .2 in
+    let c = bit-and x y (p .0) in
+    let lx = bit-le x (p .0) in
+    let ly = bit-le y (p .0) in
+    (p .0, p .1, omega arith, omega arith)
+
+pub no-common : (x y i : ℕ) → bitAnd x y ≡ 0 → bit x i ≡ 1 → bit y i ≡ 1 → ⊥
+no-common x y i e a b =
+    let c = bit-and x y i in
+    let z : bit (bitAnd x y) i ≡ 0 = ap (λ (u : ℕ). bit u i) e ∙ bit-zero i in
+    omega arith
+
+-- ---- the lowest bit from b on
 
 module _ (x b : ℕ) (hx : x < 2 ^ 64) (hb : b < 64) where
   from-shifted : (z : ℕ) → b ≤ z → bit x z ≡ bit (x / 2 ^ b) (z - b)
@@ -169,17 +164,20 @@ module _ (x b : ℕ) (hx : x < 2 ^ 64) (hb : b < 64) where
       let e : b + (z - b) ≡ z = omega arith in
       ap (bit x) (sym e) ∙ sym (bit-shifted x b (z - b))
 
-  pub lowest-none : x / 2 ^ b ≡ 0 → Lowest x b 64
+  pub lowest-none : x / 2 ^ b ≡ 0 → Least (IsSet x) b 64 64
   lowest-none e =
       record {
         low = omega arith;
         from = omega arith;
         here = λ h. absurd (omega arith);
-        none = λ z l h o. (let f = sym (from-shifted z l) ∙ o in let g : bit (x / 2 ^ b) (z - b) ≡ 0 = ap (λ (u : ℕ). bit u (z - b)) e ∙ bit-zero (z - b) in omega arith);
+        none = λ z l h o. (
+            let f = sym (from-shifted z l) ∙ o in
+            let g : bit (x / 2 ^ b) (z - b) ≡ 0 = ap (λ (u : ℕ). bit u (z - b)) e ∙ bit-zero (z - b) in
+            omega arith);
       }
 
   -- THE LOWEST BIT STANDS ABOVE THE TRAILING ZEROS
-  pub lowest-some : (x / 2 ^ b ≡ 0 → ⊥) → Lowest x b (b + trailingZeros 64 (x / 2 ^ b))
+  pub lowest-some : (x / 2 ^ b ≡ 0 → ⊥) → Least (IsSet x) b 64 (b + trailingZeros 64 (x / 2 ^ b))
   lowest-some ne =
       record {
         low = low (decLt r 64);
@@ -196,4 +194,4 @@ module _ (x b : ℕ) (hx : x < 2 ^ 64) (hb : b < 64) where
 
       low : Dec (r < 64) → r ≤ 64
       low (yes h) = omega arith
-      low (no h) = let e = bit-high x r hx (omega arith) in let s = set in absurd (omega arith)
+      low (no h) = let e = bit-high 64 x r hx (omega arith) in let s = set in absurd (omega arith)

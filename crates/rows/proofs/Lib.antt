@@ -1,5 +1,11 @@
 pub mod Bit
 pub mod Tells
-pub mod Rows
+pub mod Places
+pub mod OneBit
+pub mod OneRow
+pub mod TwoRows
+pub mod NextNode
+pub mod AllWords
 pub mod Holds
 pub mod Growing
+pub mod Searching

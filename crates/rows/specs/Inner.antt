@@ -1,3 +1,4 @@
+pub mod Least
 pub mod Rows
 pub mod Touched
 pub mod Growing

@@ -2,7 +2,8 @@
 ghost use mathlib.Core.Path.{_≡_};
 ghost use Prim.Native.Nat.{_+_, _*_, _<_, _≤_, min};
 ghost use lib.ListN.{length};
-ghost use Rattle.rows.specs.Inner.Rows.{Tells, Vouches, Has, Blank, Meet};
+ghost use Rattle.rows.specs.Inner.Least.{Least};
+ghost use Rattle.rows.specs.Inner.Rows.{Tells, Vouches, IsSet, lowWord, highWord, withWords, Has, Blank, Meet};
 ghost use Rattle.rows.specs.Inner.Touched.{
   Added,
   Removed,
@@ -10,14 +11,10 @@ ghost use Rattle.rows.specs.Inner.Touched.{
   Sifted,
   Emptied,
   Copied,
-  Lowest,
-  Next,
-  Least,
   Covers,
   Alike,
   Earlier,
   Common,
-  United,
 };
 use listing::Listing;
 
@@ -52,17 +49,40 @@ pub fn take_out(w: &mut [u64], a: usize, b: usize)
     w[i] = x ^ (x & (1u64 << (b % 64)));
 }
 
+// The low word of row a.
+fn low_word(w: &[u64], a: usize) -> u64
+    requires { ⌜ 2 * a + 1 < length (now w) ⌝ }
+    ensures { λ r. ⌜ r ≡ lowWord (now (w .entry)) a ⌝ }
+{
+    w[2 * a]
+}
+
+// The high word of row a.
+fn high_word(w: &[u64], a: usize) -> u64
+    requires { ⌜ 2 * a + 1 < length (now w) ⌝ }
+    ensures { λ r. ⌜ r ≡ highWord (now (w .entry)) a ⌝ }
+{
+    w[2 * a + 1]
+}
+
+// Stores both words of row a.
+fn set_row(w: &mut [u64], a: usize, lo: u64, hi: u64)
+    requires { ⌜ 2 * a + 1 < length (now w) ⌝ }
+    ensures { λ _. ⌜ now (w .exit) ≡ withWords (now (w .entry)) a lo hi ⌝ }
+{
+    let i = 2 * a;
+    w[i] = lo;
+    w[i + 1] = hi;
+}
+
 // Puts row k into row a.
 pub fn or_row(w: &mut [u64], a: usize, k: usize)
     requires { ⌜ (2 * a + 1 < length (now w)) × (2 * k + 1 < length (now w)) ⌝ }
     ensures { λ _. ⌜ Poured (now (w .entry)) (now (w .entry)) (now (w .exit)) a k ⌝ }
 {
-    let i = 2 * a;
-    let j = 2 * k;
-    let lo = w[i] | w[j];
-    let hi = w[i + 1] | w[j + 1];
-    w[i] = lo;
-    w[i + 1] = hi;
+    let lo = low_word(w, a) | low_word(w, k);
+    let hi = high_word(w, a) | high_word(w, k);
+    set_row(w, a, lo, hi);
 }
 
 // Puts row k of u into row a of w.
@@ -70,12 +90,9 @@ pub fn pour(u: &[u64], k: usize, w: &mut [u64], a: usize)
     requires { ⌜ (2 * a + 1 < length (now w)) × (2 * k + 1 < length (now u)) ⌝ }
     ensures { λ _. ⌜ Poured (now (u .entry)) (now (w .entry)) (now (w .exit)) a k ⌝ }
 {
-    let i = 2 * a;
-    let j = 2 * k;
-    let lo = w[i] | u[j];
-    let hi = w[i + 1] | u[j + 1];
-    w[i] = lo;
-    w[i + 1] = hi;
+    let lo = low_word(w, a) | low_word(u, k);
+    let hi = high_word(w, a) | high_word(u, k);
+    set_row(w, a, lo, hi);
 }
 
 // Keeps of row a of w what row k of u has too.
@@ -83,12 +100,9 @@ pub fn sift(u: &[u64], k: usize, w: &mut [u64], a: usize)
     requires { ⌜ (2 * a + 1 < length (now w)) × (2 * k + 1 < length (now u)) ⌝ }
     ensures { λ _. ⌜ Sifted (now (u .entry)) (now (w .entry)) (now (w .exit)) a k ⌝ }
 {
-    let i = 2 * a;
-    let j = 2 * k;
-    let lo = w[i] & u[j];
-    let hi = w[i + 1] & u[j + 1];
-    w[i] = lo;
-    w[i + 1] = hi;
+    let lo = low_word(w, a) & low_word(u, k);
+    let hi = high_word(w, a) & high_word(u, k);
+    set_row(w, a, lo, hi);
 }
 
 // Empties row a.
@@ -96,9 +110,7 @@ pub fn empty_row(w: &mut [u64], a: usize)
     requires { ⌜ 2 * a + 1 < length (now w) ⌝ }
     ensures { λ _. ⌜ Emptied (now (w .entry)) (now (w .exit)) a ⌝ }
 {
-    let i = 2 * a;
-    w[i] = 0;
-    w[i + 1] = 0;
+    set_row(w, a, 0, 0);
 }
 
 // Empties every row.
@@ -115,18 +127,16 @@ pub fn meet(w: &[u64], a: usize, s: &[u64], z: usize) -> bool
     requires { ⌜ (2 * a + 1 < length (now w)) × (2 * z + 1 < length (now s)) ⌝ }
     ensures { λ r. ⌜ Tells r (Meet (now (w .entry)) a (now (s .entry)) z) ⌝ }
 {
-    let i = 2 * a;
-    let j = 2 * z;
-    if w[i] & s[j] != 0 {
+    if low_word(w, a) & low_word(s, z) != 0 {
         return true;
     }
-    w[i + 1] & s[j + 1] != 0
+    high_word(w, a) & high_word(s, z) != 0
 }
 
 // The least bit of x from b on, or 64 where there is none.
 fn lowest(x: u64, b: usize) -> usize
     requires { ⌜ b < 64 ⌝ }
-    ensures { λ r. ⌜ Lowest x b r ⌝ }
+    ensures { λ r. ⌜ Least (IsSet x) b 64 r ⌝ }
 {
     let y = x >> b;
     if y == 0 {
@@ -148,7 +158,7 @@ fn lesser(x: usize, n: usize) -> usize
 // The least node of row a from b on and below n, or n where it has none.
 pub fn next(w: &[u64], a: usize, b: usize, n: usize) -> usize
     requires { ⌜ (2 * a + 1 < length (now w)) × (b ≤ n) × (n ≤ 128) ⌝ }
-    ensures { λ r. ⌜ Next (now (w .entry)) a b n r ⌝ }
+    ensures { λ r. ⌜ Least (Has (now (w .entry)) a) b n r ⌝ }
 {
     if n <= b {
         return n;
@@ -156,25 +166,14 @@ pub fn next(w: &[u64], a: usize, b: usize, n: usize) -> usize
     if has(w, a, b) {
         return b;
     }
-    let i = 2 * a;
-    let lo = w[i];
-    let hi = w[i + 1];
-    if b < 64 {
-        let r = lowest(lo, b);
-        if r < 64 {
-            return lesser(r, n);
-        }
-        return lesser(lowest(hi, 0) + 64, n);
+    if 64 <= b {
+        return lesser(lowest(high_word(w, a), b - 64) + 64, n);
     }
-    lesser(lowest(hi, b - 64) + 64, n)
-}
-
-// The least node of row a below n, or n where it has none.
-pub fn least(w: &[u64], a: usize, n: usize) -> usize
-    requires { ⌜ (2 * a + 1 < length (now w)) × (n ≤ 128) ⌝ }
-    ensures { λ r. ⌜ Least (now (w .entry)) a n r ⌝ }
-{
-    next(w, a, 0, n)
+    let r = lowest(low_word(w, a), b);
+    if r < 64 {
+        return lesser(r, n);
+    }
+    lesser(lowest(high_word(w, a), 0) + 64, n)
 }
 
 // Keeps of w what u has too.
@@ -187,29 +186,17 @@ pub fn keep_common(u: &[u64], w: &mut [u64])
     }
 }
 
-// Adds to w what u has.
-pub fn add_all(u: &[u64], w: &mut [u64])
-    requires { ⌜ length (now u) ≡ length (now w) ⌝ }
-    ensures { λ _. ⌜ United (now (u .entry)) (now (w .entry)) (now (w .exit)) ⌝ }
-{
-    for i in 0..w.len() {
-        w[i] = w[i] | u[i];
-    }
-}
-
 // Whether row a has all that row k has.
 pub fn within(w: &[u64], k: usize, a: usize) -> bool
     requires { ⌜ (2 * a + 1 < length (now w)) × (2 * k + 1 < length (now w)) ⌝ }
     ensures { λ r. ⌜ Vouches r (Covers (now (w .entry)) a k) ⌝ }
 {
-    let i = 2 * k;
-    let j = 2 * a;
-    let lo = w[i];
-    let hi = w[i + 1];
-    if lo & w[j] != lo {
+    let lo = low_word(w, k);
+    let hi = high_word(w, k);
+    if lo & low_word(w, a) != lo {
         return false;
     }
-    if hi & w[j + 1] != hi {
+    if hi & high_word(w, a) != hi {
         return false;
     }
     true
@@ -220,12 +207,10 @@ fn alike(r: &[u64], x: usize, y: usize) -> bool
     requires { ⌜ (2 * x + 1 < length (now r)) × (2 * y + 1 < length (now r)) ⌝ }
     ensures { λ b. ⌜ Vouches b (Alike (now (r .entry)) x y) ⌝ }
 {
-    let i = 2 * x;
-    let j = 2 * y;
-    if r[i] != r[j] {
+    if low_word(r, x) != low_word(r, y) {
         return false;
     }
-    if r[i + 1] != r[j + 1] {
+    if high_word(r, x) != high_word(r, y) {
         return false;
     }
     true

@@ -1,6 +1,7 @@
 // Answers as lines of text on standard output, the same for every program.
 mod nodes;
 
+use libc::STDIN_FILENO;
 use libc::STDOUT_FILENO;
 use listing::Listing;
 pub use nodes::shown;
@@ -8,11 +9,17 @@ use patch::ProposeAnswer;
 use verdict::CHAIN_BYTES;
 use verdict::JudgeAnswer;
 
-// The bytes of the longest listing.
-pub const LONGEST: usize = Listing::HEADING + Listing::RECORD * Listing::NODES;
+// The longest listing, and one byte more: an input cut there is still longer than any listing, and so refused by 7 at the latest.
+pub const INPUT: usize = Listing::LONGEST + 1;
 
-// A question, the longest listing, and one byte more: an input cut there is still longer than any listing, and so refused by 7 at the latest.
-pub const INPUT: usize = 1 + LONGEST + 1;
+// The question, one byte of standard input, or 0, which is no question's number, where there is none.
+pub fn question() -> u64 {
+    let mut byte = [0u8; 1];
+    if io::read_full(STDIN_FILENO, &mut byte) == 0 {
+        return 0;
+    }
+    listing::wide(byte[0]) as u64
+}
 
 pub fn text(words: &[u8]) {
     io::write_all(STDOUT_FILENO, words);

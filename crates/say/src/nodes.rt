@@ -27,10 +27,10 @@ fn access(word: &[u8], location: usize) {
 
 fn kind(kind: u8, location: usize) {
     match kind {
-        0 => text(b"plain"),
-        1 => access(b"read", location),
-        2 => access(b"write", location),
-        3 => access(b"read-modify-write", location),
+        listing::PLAIN => text(b"plain"),
+        listing::READ => access(b"read", location),
+        listing::WRITE => access(b"write", location),
+        listing::RMW => access(b"read-modify-write", location),
         _ => text(b"fence"),
     }
 }

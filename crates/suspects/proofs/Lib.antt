@@ -1,5 +1,9 @@
+pub mod Counted
+pub mod Pairs
+pub mod WhoMeets
 pub mod OnChain
-pub mod Relations
-pub mod Chained
-pub mod Tests
+pub mod LeadingBack
 pub mod Returning
+pub mod Chained
+pub mod ClearWalks
+pub mod RmwInside

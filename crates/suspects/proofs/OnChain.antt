@@ -9,7 +9,7 @@ use Rattle.order.specs.Rows.{All, In, Row}
 use Rattle.order.specs.Chains.{MayMeet, Ends, IsPair, Joined, Chain}
 use Rattle.order.proofs.Lists.{row-join, in-all, all-in, in-either}
 use Rattle.order.proofs.Laws.{meets-sym}
-use Rattle.order.proofs.Least.{through}
+use Rattle.order.proofs.Least.{through, leads-back}
 use Rattle.suspects.specs.Inner.Back.{Turns, Leads, Home, Returns}
 
 module _ (L : Listing) where
@@ -40,7 +40,8 @@ module _ (L : Listing) where
   turns-lead a [] c t = leads-link a c t
   turns-lead a (x ∷ xs) c t = leads-via a x c (t .0) (turns-lead x xs c (t .1))
 
-  pub lead-turns : (a c d : ℕ) (vs : List Ends) → IsPair L (c, d) → All (IsPair L) vs → Row (Joined L) (c, d) vs (a, a) → (inside : List ℕ) × Row (Turns L) a inside c
+  pub lead-turns : (a c d : ℕ) (vs : List Ends) → IsPair L (c, d) → All (IsPair L) vs → Row (Joined L) (c, d) vs (a, a)
+      → (inside : List ℕ) × Row (Turns L) a inside c
   lead-turns a c d [] h g r = ([], (d, meets-sym L d a r, h))
   lead-turns a c d (x ∷ vs) h g r =
       let i = lead-turns a (x .0) (x .1) vs (g .0) (g .1) (r .1) in
@@ -59,23 +60,20 @@ module _ (L : Listing) where
       go (no n) = inr (x .0, n, (x .1, vs, g .0, g .1, r .1), hop)
 
   pub chain-returns : (a b : ℕ) (rest : List Ends) → Chain L (a, b) rest → Returns L a b
-  chain-returns a b [] k = absurd (k .enough)
-  chain-returns a b (x ∷ vs) k = go (ℕ-discrete a (x .0))
+  chain-returns a b rest k =
+      let l = leads-back L (a, b) rest k in
+      let x = l .0 in
+      by x (l .1) (l .2) (l .3) (meets-sym L b (x .0) (l .4)) (row-to x (l .1) (a, b) (a, a) refl (l .5)) (ℕ-discrete a (x .0))
     where
-      back : Row (Joined L) x vs (a, a)
-      back = row-to x vs (a, b) (a, a) refl (k .closed .1)
-
-      hop : MayMeet L (x .0) b
-      hop = meets-sym L b (x .0) (k .closed .0)
-
-      go : Dec (a ≡ x .0) → Returns L a b
-      go (no n) = inl (x .0, n, (x .1, vs, k .pairs .1 .0, k .pairs .1 .1, back), hop)
-      go (yes e) = inr (
+      by : (x : Ends) (vs : List Ends) → (_≡_ {A = Ends} (a, b) x → ⊥) → All (IsPair L) (x ∷ vs) → MayMeet L (x .0) b
+          → Row (Joined L) x vs (a, a) → Dec (a ≡ x .0) → Returns L a b
+      by x vs other pairs meets back (no n) = inl (x .0, n, (x .1, vs, pairs .0, pairs .1, back), meets)
+      by x vs other pairs meets back (yes e) = inr (
         x .1,
-        λ f. k .different .0 (inl (λ i. (e i, f i))),
-        subst (λ (v : ℕ). MayMeet L v b) (sym e) hop,
-        subst (λ (v : ℕ). IsPair L (v, x .1)) (sym e) (k .pairs .1 .0),
-        home a (x .1) x vs refl (k .pairs .1 .1) back,
+        λ f. other (λ i. (e i, f i)),
+        subst (λ (v : ℕ). MayMeet L v b) (sym e) meets,
+        subst (λ (v : ℕ). IsPair L (v, x .1)) (sym e) (pairs .0),
+        home a (x .1) x vs refl (pairs .1) back,
       )
 
   pub returns-chain : (a b : ℕ) → IsPair L (a, b) → Returns L a b → (rest : List Ends) × Chain L (a, b) rest

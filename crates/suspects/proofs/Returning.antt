@@ -1,42 +1,18 @@
 -- A row of who returns, put together from rows.
-use mathlib.Core.Path.{_≡_, refl, sym, subst, _∙_}
+use mathlib.Core.Path.{_≡_, sym, subst, _∙_}
 use mathlib.Core.Logic.{_≢_, _⊎_, inl, inr}
 use mathlib.Core.List.{List}
 use Prim.Native.Nat.{ℕ, _≤_, _<_}
 use native.Mathlib.Omega.{arith}
 use native.Mathlib.Decide.{ℕ-discrete}
-use Rattle.rows.specs.Inner.Rows.{at, Has, Low, Blank}
-use Rattle.rows.specs.Inner.Touched.{Removed, Poured, Sifted, Least}
-use Rattle.rows.proofs.Rows.{at-le}
-use Rattle.suspects.specs.Inner.Back.{RowReturns}
+use Rattle.rows.specs.Inner.Rows.{Has, Low, Blank}
+use Rattle.rows.specs.Inner.Least.{Least}
+use Rattle.rows.specs.Inner.Touched.{Removed, Poured, Sifted, Copied}
 use Rattle.rows.specs.Inner.Growing.{RowGrown}
+use Rattle.rows.proofs.OneRow.{poured-gives, poured-brings, poured-keeps, sifted-gives, sifted-keeps}
+use Rattle.rows.proofs.Growing.{grown-empty, grown-pour}
+use Rattle.suspects.specs.Inner.Back.{RowReturns}
 use Rattle.suspects.specs.Inner.Returning.{HomeEnds, Answered}
-use Rattle.rows.specs.Inner.Touched.{Copied}
-
--- ── A row that is poured into, or sifted ────────────────────────────────────
-module _ (u w v : List ℕ) (a k : ℕ) where
-  pub poured-gives : Poured u w v a k → (y : ℕ) → y < 128 → Has v a y → Has w a y ⊎ Has u k y
-  poured-gives p y l h = by (ℕ-discrete (at w a y) 1)
-    where
-      by : Dec (at w a y ≡ 1) → Has w a y ⊎ Has u k y
-      by (yes e) = inl e
-      by (no e) = inr (omega (arith, p .row y l, at-le w a y, at-le u k y))
-
-  pub poured-brings : Poured u w v a k → (y : ℕ) → y < 128 → Has u k y → Has v a y
-  poured-brings p y l h = omega (arith, p .row y l, at-le w a y)
-
-  pub poured-keeps : Poured u w v a k → (x y : ℕ) → y < 128 → Has w x y → Has v x y
-  poured-keeps p x y l h = by (ℕ-discrete x a)
-    where
-      by : Dec (x ≡ a) → Has v x y
-      by (yes e) = subst (λ (z : ℕ). Has v z y) (sym e) (let g : Has w a y = subst (λ (z : ℕ). Has w z y) e h in omega (arith, p .row y l, at-le u k y))
-      by (no e) = p .rest x y l e ∙ h
-
-  pub sifted-gives : Sifted u w v a k → (y : ℕ) → y < 128 → Has v a y → Has w a y × Has u k y
-  sifted-gives p y l h = (omega (arith, p .row y l, at-le w a y, at-le u k y), omega (arith, p .row y l, at-le w a y, at-le u k y))
-
-  pub sifted-keeps : Sifted u w v a k → (y : ℕ) → y < 128 → Has w a y → Has u k y → Has v a y
-  sifted-keeps p y l h g = omega (arith, p .row y l)
 
 -- ── The ends that come home ─────────────────────────────────────────────────
 pub home-ends : (p m w s t v : List ℕ) (a : ℕ) → Copied m a s → Poured w s t 0 a → Sifted p t v 0 a → HomeEnds p m w a v
@@ -54,15 +30,15 @@ home-ends p m w s t v a k f g = record {
     one d l (inr h) = poured-brings w s t 0 a f d l h
 
 -- ── The ends for which there is another one ─────────────────────────────────
-module _ (h : List ℕ) (n d : ℕ) (small : n ≤ 128) (least : Least h 0 n d) where
+module _ (h : List ℕ) (n d : ℕ) (small : n ≤ 128) (least : Least (Has h 0) 0 n d) where
   -- no end is home: none is answered
   pub answered-none : (s v : List ℕ) → d ≡ n → Blank v → Answered h s v n
   answered-none s v e z = record {
     gives = λ b l g. absurd (z 0 b l g);
-    keeps = λ b x l lx o g k. absurd (least .none x (omega arith) g);
+    keeps = λ b x l lx o g k. absurd (least .none x (omega arith) (omega arith) g);
   }
 
-  module _ (h′ : List ℕ) (e : ℕ) (low : d ≢ n) (out : Removed h h′ 0 d) (next : Least h′ 0 n e) where
+  module _ (h′ : List ℕ) (e : ℕ) (low : d ≢ n) (out : Removed h h′ 0 d) (next : Least (Has h′ 0) 0 n e) where
     below : d < n
     below = omega (arith, least .low)
 
@@ -89,39 +65,29 @@ module _ (h : List ℕ) (n d : ℕ) (small : n ≤ 128) (least : Least h 0 n d) 
       where
         only : (x : ℕ) → x < n → Has h 0 x → Dec (x ≡ d) → x ≡ d
         only x l g (yes k) = k
-        only x l g (no k) = absurd (next .none x (omega arith) (out .keeps 0 x (omega arith) (λ t. k (t .1)) g))
+        only x l g (no k) = absurd (next .none x (omega arith) (omega arith) (out .keeps 0 x (omega arith) (λ t. k (t .1)) g))
 
 -- A ROW OF WHO RETURNS: what comes round, and what meets its first node while another end is home
-pub row-grown : (n : ℕ) (p m w c c₁ c₂ home s v : List ℕ) (a : ℕ) → n ≤ 128 → a < n → Low n m → Low n w
+pub row-grown : (n : ℕ) (p m w c c₁ c₂ home s v : List ℕ) (a : ℕ) → n ≤ 128 → Low n m → Low n w
     → HomeEnds p m w a home → Copied m a s → Answered home s v n → Poured w c c₁ a a → Poured v c₁ c₂ a 0
     → RowGrown (RowReturns n p m w) c c₂ a n
-row-grown n p m w c c₁ c₂ home s v a small la lm lw hh hs hv f g = record {
-  gives = λ x y l h. by x y l h (ℕ-discrete x a);
-  keeps = λ x y l h. poured-keeps v c₁ c₂ a 0 g x y l (poured-keeps w c c₁ a a f x y l h);
-  done = λ y l r. done y l r;
-}
+row-grown n p m w c c₁ c₂ home s v a small lm lw hh hs hv f g =
+    grown-pour (Has w) (RowReturns n p m w) v c c₁ c₂ a 0 n small (λ y h. inl h) meets back around g
   where
-    Comes : ℕ → ℕ → Type 0
-    Comes x y = Has c x y ⊎ ((x ≡ a) × (y < n) × RowReturns n p m w a y)
+    around : RowGrown (Has w) c c₁ a n
+    around =
+        grown-pour (λ x y. ⊥) (Has w) w c c c₁ a a n small (λ y h. absurd h) (λ y l h. (lw a y l h .1, h)) (λ y l h. inr h)
+        (grown-empty (λ x y. ⊥) c a n (λ y h. h)) f
 
-    row : (y : ℕ) → y < 128 → Has c₁ a y ⊎ Has v 0 y → Comes a y
-    row y l (inl h) = first (poured-gives w c c₁ a a f y l h)
-      where
-        first : Has c a y ⊎ Has w a y → Comes a y
-        first (inl k) = inl k
-        first (inr k) = inr (refl, lw a y l k .1, inl k)
-    row y l (inr h) =
+    meets : (y : ℕ) → y < 128 → Has v 0 y → (y < n) × RowReturns n p m w a y
+    meets y l h =
         let x = hv .gives y l h in
         let k : Has m a y = sym (hs .same y l) ∙ x .0 in
         let o = hh .gives (x .1 .0) (omega (arith, x .1 .1)) (x .1 .3) in
-        inr (refl, lm a y l k .1, inr (x .1 .0, x .1 .1, x .1 .2, k, o .0, o .1))
+        (lm a y l k .1, inr (x .1 .0, x .1 .1, x .1 .2, k, o .0, o .1))
 
-    by : (x y : ℕ) → y < 128 → Has c₂ x y → Dec (x ≡ a) → Comes x y
-    by x y l h (yes e) = subst (λ (z : ℕ). Comes z y) (sym e) (row y l (poured-gives v c₁ c₂ a 0 g y l (subst (λ (z : ℕ). Has c₂ z y) e h)))
-    by x y l h (no e) = inl (sym (f .rest x y l e) ∙ (sym (g .rest x y l e) ∙ h))
-
-    done : (y : ℕ) → y < n → RowReturns n p m w a y → Has c₂ a y
-    done y l (inl h) = poured-keeps v c₁ c₂ a 0 g a y (omega arith) (poured-brings w c c₁ a a f y (omega arith) h)
-    done y l (inr r) =
+    back : (y : ℕ) → y < n → RowReturns n p m w a y → Has w a y ⊎ Has v 0 y
+    back y l (inl h) = inl h
+    back y l (inr r) =
         let ly : y < 128 = omega arith in
-        poured-brings v c₁ c₂ a 0 g y ly (hv .keeps y (r .0) ly (r .1) (r .2) (hh .keeps (r .0) (omega (arith, r .1)) (r .4) (r .5)) (hs .same y ly ∙ r .3))
+        inr (hv .keeps y (r .0) ly (r .1) (r .2) (hh .keeps (r .0) (omega (arith, r .1)) (r .4) (r .5)) (hs .same y ly ∙ r .3))

@@ -1,4 +1,4 @@
 pub mod Back
-pub mod Failing
+pub mod Suspect
 pub mod Picked
 pub mod Returning

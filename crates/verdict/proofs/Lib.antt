@@ -1,6 +1,6 @@
 pub mod Refusing
 pub mod Promise
 pub mod Shortest
-pub mod Rows
+pub mod Following
 pub mod Showing
 pub mod Deciding

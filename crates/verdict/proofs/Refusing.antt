@@ -1,6 +1,6 @@
 -- Which row of judge's table applies, check by check; the parts serve the other services too.
 use mathlib.Core.Path.{_≡_, refl, sym, ap, _∙_, subst}
-use mathlib.Core.Bool.{Bool, true, false, cond, _&&_, false≢true}
+use mathlib.Core.Bool.{Bool, true, false, cond}
 use mathlib.Core.List.{List, [], _∷_, _++_}
 use Prim.Native.Nat.{ℕ, _≤_, _<_}
 use lib.ListN.{length}
@@ -10,7 +10,9 @@ use Rattle.listing.specs.Bytes.{nodesOf}
 use Rattle.listing.specs.Answer.{Answer, refusal}
 use Rattle.listing.specs.Rules.{Rule, rule, Refusal, passed, refused, firstOf}
 use Rattle.listing.specs.Read.{readRules, Admitted}
+use Rattle.listing.proofs.Bools.{and-both}
 use Rattle.listing.proofs.Table.{pass, stop}
+use Rattle.order.specs.Need.{QUESTIONS, Asked}
 use Rattle.verdict.specs.Judging.{wrongQuestion, questionRules, bufferRules, CHAIN, judgeRules, Told, Judging, JudgePromise}
 
 -- ── A table of one row ──────────────────────────────────────────────────────
@@ -60,13 +62,9 @@ module _ (q : ℕ) (s old : List ℕ) where
   pub judge-told : (new : List ℕ) (r : Answer) → firstOf (judgeRules q s old) ≡ passed → Told q (nodesOf s) old new r → JudgePromise q s old new r
   judge-told new r e t = subst (λ (f : Refusal). Judging f q (nodesOf s) old new r) (sym e) t
 
--- a question that rule 1 lets pass is 1 to 4
-pub question-in : (q : ℕ) → wrongQuestion q ≡ false → (1 ≤ q) × (q ≤ 4)
+-- a question that rule 1 lets pass can be asked
+pub question-in : (q : ℕ) → wrongQuestion q ≡ false → Asked q
 unfolding wrongQuestion
 question-in q e =
-    let h = and-true (leb 1 q) (leb q 4) (not-false _ e) in
-    (leb-true 1 q (h .0), leb-true q 4 (h .1))
-  where
-    and-true : (a b : Bool) → (a && b) ≡ true → (a ≡ true) × (b ≡ true)
-    and-true true b h = (refl, h)
-    and-true false b h = absurd (false≢true h)
+    let h = and-both (leb 1 q) (leb q QUESTIONS) (not-false _ e) in
+    record { least = leb-true 1 q (h .0); most = leb-true q QUESTIONS (h .1) }

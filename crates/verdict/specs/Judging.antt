@@ -2,22 +2,24 @@
 use mathlib.Core.Path.{_≡_}
 use mathlib.Core.Bool.{Bool, not, _&&_}
 use mathlib.Core.List.{List, [], _∷_, _++_}
-use Prim.Native.Nat.{ℕ}
+use Prim.Native.Nat.{ℕ, _+_, _*_}
 use lib.ListN.{length}
 use lib.Dec.{ltb, leb}
+use Rattle.listing.specs.Limits.{NODES}
 use Rattle.listing.specs.Node.{Listing}
 use Rattle.listing.specs.Bytes.{nodesOf}
 use Rattle.listing.specs.Rules.{Rule, rule, Refusal, passed, refused, firstOf}
 use Rattle.listing.specs.Read.{readRules}
 use Rattle.listing.specs.Answer.{Answer, done, openAt, refusal, filled}
 use Rattle.order.specs.Chains.{Ends}
+use Rattle.order.specs.Need.{QUESTIONS}
 use Rattle.order.specs.Verdict.{Verdict, robust, opened, Judged}
 use Rattle.verdict.specs.declared.JudgeAnswer.{JudgeAnswer}
 use Rattle.verdict.specs.declared.JudgeAnswer.the-variants.{Robust, Open, Refused}
 
 -- "question not 1 to 4"
 unfoldable pub wrongQuestion : ℕ → Bool
-wrongQuestion q = not (leb 1 q && leb q 4)
+wrongQuestion q = not (leb 1 q && leb q QUESTIONS)
 
 -- 1
 abbrev pub questionRules : ℕ → List Rule
@@ -27,9 +29,9 @@ questionRules q = rule (wrongQuestion q) 1 0 ∷ []
 abbrev pub bufferRules : ℕ → List ℕ → List Rule
 bufferRules size buffer = rule (ltb (length buffer) size) 16 0 ∷ []
 
--- "The chain buffer must have 258 bytes"
+-- "The chain buffer must have 258 bytes": two bytes a pair, and "it never has more than N + 1 pairs"
 abbrev pub CHAIN : ℕ
-CHAIN = 258
+CHAIN = 2 * (NODES + 1)
 
 -- judge's refusals: 1, then 2 to 12, then 16
 unfoldable pub judgeRules : ℕ → List ℕ → List ℕ → List Rule

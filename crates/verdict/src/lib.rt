@@ -3,7 +3,8 @@ ghost use mathlib.Core.Path.{_≡_};
 ghost use Prim.Native.Nat.{_*_, _≤_};
 ghost use lib.ListN.{length};
 ghost use Rattle.listing.specs.Bytes.{countN, nodesOf};
-ghost use Rattle.listing.specs.Read.{Admitted};
+ghost use Rattle.listing.specs.Inner.Whole.{Whole};
+ghost use Rattle.order.specs.Need.{Asked};
 ghost use Rattle.verdict.specs.Judging.{CHAIN, wrongQuestion, judgeSays, Told, JudgePromise};
 ghost use Rattle.verdict.specs.Inner.Showing.{Chained, Followed, Showed};
 use listing::Listing;
@@ -25,7 +26,7 @@ pub enum JudgeAnswer {
 }
 
 // What a chain buffer must have: two bytes a pair, of one pair more than a listing has nodes.
-pub const CHAIN_BYTES: usize = 258;
+pub const CHAIN_BYTES: usize = 2 * (Listing::NODES + 1);
 
 // Rule 1.
 pub fn wrong_question(question: u64) -> bool
@@ -34,7 +35,7 @@ pub fn wrong_question(question: u64) -> bool
     if question < 1 {
         return true;
     }
-    if 4 < question {
+    if (order::QUESTIONS as u64) < question {
         return true;
     }
     false
@@ -78,23 +79,22 @@ fn show_chain(
     follow(bytes, p, m, a, b, &mut out[2..]) + 1
 }
 
-// The verdict of a listing that was admitted.
+// The verdict of a listing whose records are all there.
 pub fn decide(question: u8, bytes: &[u8], chain: &mut [u8]) -> JudgeAnswer
-    requires { ⌜ (1 ≤ question) × (question ≤ 4) × Admitted (now bytes) × (CHAIN ≤ length (now chain)) ⌝ }
+    requires { ⌜ Asked question × Whole (now bytes) × (CHAIN ≤ length (now chain)) ⌝ }
     ensures { λ r. ⌜ Told question (nodesOf (now (bytes .entry))) (now (chain .entry)) (now (chain .exit)) (judgeSays r) ⌝ }
 {
     let mut p = [0u64; WORDS];
     let mut m = [0u64; WORDS];
     let mut c = [0u64; WORDS];
     let mut i = [0u64; WORDS];
-    suspects::suspects(question, bytes, &mut p, &mut m, &mut c);
-    suspects::exchanged_rows(bytes, &p, &mut i);
-    let n = listing::node_count(bytes);
-    let first = failing::first_failing(question, bytes, &c, &i);
-    if first == n {
+    failing::prepare(question, bytes, &mut p, &mut m, &mut c, &mut i);
+    let found = failing::next_failing(question, bytes, &c, &i, 0, 0);
+    let first = found.first;
+    let second = found.second;
+    if first == listing::node_count(bytes) {
         return JudgeAnswer::Robust;
     }
-    let second = failing::second_failing(question, bytes, &c, &i, first);
     let count = show_chain(bytes, &mut p, &m, first, second, chain);
     JudgeAnswer::Open {
         first,

@@ -1,6 +1,6 @@
 -- `chains::chain` meets its contract.
 use borrow.Author.Needs.{needs}
-use Rattle.chains.proofs.Chains.{hop-far, downhill, shown, shown-never}
+use Rattle.chains.proofs.Courses.{downhill, shown, shown-never}
 use Rattle.chains.proofs.chain.Statement.{statement}
 use Rattle.chains.proofs.chain.Tie as tie
 
@@ -13,24 +13,31 @@ distances-requires c κs = search needs
 nearest-requires : tie.Need-nearest-requires
 nearest-requires c κs = search needs
 
+-- the places before the least distance of the row is known
+abbrev measured : tie.After-nearest → tie.After-distances
+measured c = c .before .before .before
+
+abbrev composed : tie.After-nearest → tie.After-compose
+composed c = measured c .before .before .before
+
+abbrev entry : tie.After-nearest → tie.Start
+entry c = composed c .before .before .before
+
 returns : tie.Need-returns
 returns c =
-    let p = c .before .before .before .before .before .before .before .before .before .before .pre in
-    let t = c .before .before .before .before .before .before .before .before .before .before .args .t .now in
-    let k = c .before .before .before .before .before .before .before .compose .ensures in
-    let f = hop-far _ _ _ _ (p .few) k (c .before .before .before .before .distances .ensures) in
-    shown-never _ _ _ t _ (p .few) f _ _ _ (p .low) k (c .before .nearest .ensures) _ (c .if1 .taken)
+    let g = c .before in
+    let t = entry g .args .t .now in
+    shown-never _ _ _ t _ _ _ _ _ (entry g .pre) (composed g .compose .ensures) (measured g .distances .ensures) (g .nearest .ensures) (c .if1 .taken)
 
 add-descend : tie.Need-add-descend
 add-descend c = search needs
 
 descend-requires : tie.Need-descend-requires
 descend-requires c κs =
-    let p = c .before .before .before .before .before .before .before .before .before .before .before .before .pre in
-    let t = c .before .before .before .before .before .before .before .before .before .before .before .before .args .t .now in
-    let k = c .before .before .before .before .before .before .before .before .before .compose .ensures in
-    let f = hop-far _ _ _ _ (p .few) k (c .before .before .before .before .before .before .distances .ensures) in
-    downhill _ _ _ t _ (p .few) f _ _ _ (p .low) k (c .before .before .before .nearest .ensures) _ p (c .before .before .if1 .left)
+    let e = c .before .before in
+    let g = e .before in
+    let t = entry g .args .t .now in
+    downhill _ _ _ t _ _ _ _ _ (entry g .pre) (composed g .compose .ensures) (measured g .distances .ensures) (g .nearest .ensures) (e .if1 .left)
 
 wide-requires : tie.Need-wide-requires
 wide-requires c κs = search needs
@@ -43,11 +50,12 @@ same-length c = search needs
 
 returns-2 : tie.Need-returns-2
 returns-2 c =
-    let p = c .before .before .before .before .before .before .before .before .before .before .before .before .before .before .before .before .pre in
-    let t = c .before .before .before .before .before .before .before .before .before .before .before .before .before .before .before .before .args .t .now in
-    let k = c .before .before .before .before .before .before .before .before .before .before .before .before .before .compose .ensures in
-    let f = hop-far _ _ _ _ (p .few) k (c .before .before .before .before .before .before .before .before .before .before .distances .ensures) in
-    rw (c .wide .ensures .0) (shown _ _ _ t _ (p .few) f _ _ _ (p .low) k (c .before .before .before .before .before .before .before .nearest .ensures) _ _ (c .before .before .before .before .before .before .if1 .left) (c .before .before .before .descend .ensures))
+    let d = c .before .before .before in
+    let e = d .before .before .before in
+    let g = e .before in
+    let t = entry g .args .t .now in
+    rw (c .wide .ensures .0) (shown _ _ _ t _ _ _ _ _ (entry g .pre) (composed g .compose .ensures) (measured g .distances .ensures)
+    (g .nearest .ensures) (e .if1 .left) _ (d .descend .ensures))
 
 pub chain-spec : {M : Type 1} → statement M
 chain-spec =

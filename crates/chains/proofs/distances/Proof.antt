@@ -19,7 +19,9 @@ loop-holds : tie.Need-loop-holds Inv-loop μ-loop
 loop-holds c = level-start _ _ _ _ (c .before .before .before .pre) (c .mark .ensures)
 
 round-requires : tie.Need-round-requires Inv-loop μ-loop
-round-requires c κs = (c .before .before .before .before .before .pre, omega (arith, c .before .loop .inv .room))
+round-requires c κs =
+    let m = c .before .before in
+    (m .before .before .before .pre, omega (arith, c .before .loop .inv .room))
 
 add-r : tie.Need-add-r Inv-loop μ-loop
 add-r c = omega (arith, c .before .before .before .loop .inv .room)
@@ -28,10 +30,14 @@ loop-less : tie.Need-loop-less Inv-loop μ-loop
 loop-less c = omega (arith, c .before .round .ensures .count)
 
 loop-again : tie.Need-loop-again Inv-loop μ-loop
-loop-again c = level-more _ _ _ _ _ _ _ (c .before .before .before .before .before .before .before .pre) (c .before .before .before .loop .inv) (c .before .round .ensures) (omega arith)
+loop-again c =
+    let k = c .before in
+    level-more _ _ _ _ _ _ _ (k .before .before .loop .inv) (k .round .ensures) (omega arith)
 
 returns : tie.Need-returns Inv-loop μ-loop
-returns c = level-end _ _ _ _ _ _ _ (c .before .before .before .before .before .before .before .pre) (c .before .before .before .loop .inv) (c .before .round .ensures) (omega arith)
+returns c =
+    let k = c .before in
+    level-end _ _ _ _ _ _ _ (k .before .before .loop .inv) (k .round .ensures) (omega arith)
 
 pub distances-spec : {M : Type 1} → statement M
 distances-spec =

@@ -13,9 +13,10 @@ has-requires-2 c κs = search needs
 
 returns : tie.Need-returns
 returns c =
-    let a = c .before .before .before .before .before .args in
+    let h = c .before .before in
+    let a = h .before .before .before .args in
     tells-and (Has (a .w .now) (a .c) (a .y)) (Has (a .s .now) 0 (a .y)) (c .has2 .result)
-    (rw (c .before .if1 .taken) at (c .before .before .has .ensures)) (c .has2 .ensures)
+    (rw (c .before .if1 .taken) at (h .has .ensures)) (c .has2 .ensures)
 
 returns-2 : tie.Need-returns-2
 returns-2 c = λ p. (rw (c .if1 .left) at (c .before .has .ensures)) (p .0)

@@ -13,9 +13,10 @@ meet-requires c κs = search needs
 
 returns : tie.Need-returns
 returns c =
-    let a = c .before .before .before .before .before .before .args in
+    let h = c .before .before in
+    let a = h .before .before .before .before .args in
     tells-and (Has (a .m .now) (a .x) (a .c)) (Meet (a .w .now) (a .c) (a .s .now) 0) (c .meet .result)
-    (rw (c .before .if1 .taken) at (c .before .before .has .ensures)) (c .meet .ensures)
+    (rw (c .before .if1 .taken) at (h .has .ensures)) (c .meet .ensures)
 
 returns-2 : tie.Need-returns-2
 returns-2 c = λ p. (rw (c .if1 .left) at (c .before .has .ensures)) (p .0)

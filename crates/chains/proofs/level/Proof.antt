@@ -4,13 +4,14 @@ use native.Mathlib.Omega.{arith}
 use mathlib.Core.Path.{_≡_}
 use mathlib.Core.Logic.{⊎-elim}
 use Prim.Native.Nat.{_≤_, _<_, _-_}
-use Rattle.chains.specs.Inner.Levels.{AtLevel}
-use Rattle.chains.proofs.Levels.{level-none, level-put, level-skip}
+use Rattle.rows.specs.Inner.Rows.{Members}
+use Rattle.rows.proofs.Growing.{members-none, members-put, members-skip}
+use Rattle.chains.specs.Inner.Levels.{AtDistance}
 use Rattle.chains.proofs.level.Statement.{statement}
 use Rattle.chains.proofs.level.Tie as tie
 
 abbrev Inv-loop : tie.InvT-loop
-Inv-loop n d r s₀ y₀ s y = (y ≤ n) × AtLevel d r s y
+Inv-loop n d r s₀ y₀ s y = (y ≤ n) × Members s y (AtDistance d r)
 
 abbrev μ-loop : tie.MeasureT-loop
 μ-loop n d r s₀ y₀ s y = n - y
@@ -19,7 +20,7 @@ clear-requires : tie.Need-clear-requires Inv-loop μ-loop
 clear-requires c κs = search needs
 
 loop-holds : tie.Need-loop-holds Inv-loop μ-loop
-loop-holds c = (search needs, level-none _ _ _ (c .clear .ensures))
+loop-holds c = (search needs, members-none _ _ (c .clear .ensures))
 
 element-copy-out-if1 : tie.Need-element-copy-out-if1 Inv-loop μ-loop
 element-copy-out-if1 c = omega arith
@@ -35,18 +36,20 @@ loop-less c = omega arith
 
 loop-again : tie.Need-loop-again Inv-loop μ-loop
 loop-again c =
-    let inv = c .before .before .before .loop .inv in
-    let p = c .before .before .before .before .before .before .pre in
-    let hy : c .before .before .before .loop .y < 128 = omega arith in
+    let t = c .before .before .before in
+    let few = t .before .before .before .pre in
+    let m = t .loop .inv .1 in
+    let low : t .loop .y < 128 = omega arith in
     ⊎-elim
-    (λ q. (omega arith, rw (q .3) (level-put _ _ _ _ hy (inv .1) _ (q .0 .taken) (q .2 .ensures))))
-    (λ q. (omega arith, rw (q .1) (level-skip _ _ _ _ hy (inv .1) (q .0 .left))))
+    (λ q. (omega arith, rw (q .3) (members-put _ _ _ _ low m (q .0 .taken) (q .2 .ensures))))
+    (λ q. (omega arith, rw (q .1) (members-skip _ _ _ m (q .0 .left))))
     (c .if1 .came)
 
 returns : tie.Need-returns Inv-loop μ-loop
 returns c =
-    let e : c .before .loop .y ≡ c .before .before .before .before .args .n = omega arith in
-    rw e at (c .before .loop .inv .1)
+    let t = c .before in
+    let e : t .loop .y ≡ t .before .before .before .args .n = omega arith in
+    rw e at (t .loop .inv .1)
 
 pub level-spec : {M : Type 1} → statement M
 level-spec =

@@ -1,21 +1,20 @@
 -- `chains::mark` meets its contract.
 use borrow.Author.Needs.{needs}
 use native.Mathlib.Omega.{arith}
-use mathlib.Core.Path.{_≡_, sym, _∙_}
-use Prim.Native.Nat.{_≤_, _-_}
-use lib.ListN.{length, length-set}
-use Rattle.chains.proofs.Levels.{Marks, marks-more, marked}
+use mathlib.Core.Path.{sym, _∙_}
+use Prim.Native.Nat.{_-_}
+use Rattle.chains.proofs.Starting.{StartedBelow, started-more, started}
 use Rattle.chains.proofs.mark.Statement.{statement}
 use Rattle.chains.proofs.mark.Tie as tie
 
 abbrev Inv-loop : tie.InvT-loop
-Inv-loop n t d₀ x₀ d x = (x ≤ 128) × (length d ≡ 128) × Marks n t d x
+Inv-loop n t d₀ x₀ d x = StartedBelow n t d x
 
 abbrev μ-loop : tie.MeasureT-loop
 μ-loop n t d₀ x₀ d x = 128 - x
 
 loop-holds : tie.Need-loop-holds Inv-loop μ-loop
-loop-holds c = (search needs, c .before .before .pre .1, λ x h. absurd (omega arith))
+loop-holds c = record { low = search needs; long = c .before .before .pre .1; at = λ x h. absurd (omega arith) }
 
 start-requires : tie.Need-start-requires Inv-loop μ-loop
 start-requires c κs = search needs
@@ -30,20 +29,13 @@ loop-less : tie.Need-loop-less Inv-loop μ-loop
 loop-less c = omega arith
 
 loop-again : tie.Need-loop-again Inv-loop μ-loop
-loop-again c =
-    let inv = c .before .before .loop .inv in (
-      omega arith,
-      simp length-set (inv .1),
-      marks-more (c .before .before .before .before .before .args .n) (c .before .before .before .before .before .args .t .now) (c .before .before .loop .d) (c .before .before .loop .x) (c .start .result) (omega arith) (inv .2) (c .start .ensures),
-    )
+loop-again c = started-more _ _ _ _ _ (omega arith) (c .before .before .loop .inv) (c .start .ensures)
 
 same-length : tie.Need-same-length Inv-loop μ-loop
-same-length c = c .before .loop .inv .1 ∙ sym (c .before .before .before .before .pre .1)
+same-length c = c .before .loop .inv .long ∙ sym (c .before .before .before .before .pre .1)
 
 returns : tie.Need-returns Inv-loop μ-loop
-returns c =
-    let e : c .before .loop .x ≡ 128 = omega arith in
-    marked (c .before .before .before .before .args .n) (c .before .before .before .before .args .t .now) (c .before .loop .d) (c .before .loop .inv .1) (rw e at (c .before .loop .inv .2))
+returns c = started _ _ _ _ (c .before .loop .inv) (c .loop-test .left)
 
 pub mark-spec : {M : Type 1} → statement M
 mark-spec =

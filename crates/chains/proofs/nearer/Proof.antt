@@ -13,7 +13,9 @@ shared-slice-read-e : tie.Need-shared-slice-read-e
 shared-slice-read-e c = search needs
 
 returns : tie.Need-returns
-returns c = record { low = omega arith; here = λ h. omega arith; from = inr (rw (c .before .before .if1 .taken) at (c .before .before .before .has .ensures), refl) }
+returns c =
+    let t = c .before .before in
+    record { low = omega arith; here = λ h. omega arith; from = inr (rw (t .if1 .taken) at (t .before .has .ensures), refl) }
 
 returns-2 : tie.Need-returns-2
 returns-2 c = record { low = omega arith; here = λ h. omega arith; from = inl refl }

@@ -4,7 +4,7 @@ use native.Mathlib.Omega.{arith}
 use mathlib.Core.Path.{_≡_}
 use Prim.Native.Nat.{_≤_, _-_}
 use Rattle.chains.specs.Inner.Descent.{Nearest}
-use Rattle.chains.proofs.Going.{nearest-none, nearest-more}
+use Rattle.chains.proofs.Nearing.{nearest-none, nearest-more}
 use Rattle.chains.proofs.nearest.Statement.{statement}
 use Rattle.chains.proofs.nearest.Tie as tie
 
@@ -27,7 +27,9 @@ loop-less : tie.Need-loop-less Inv-loop μ-loop
 loop-less c = omega arith
 
 loop-again : tie.Need-loop-again Inv-loop μ-loop
-loop-again c = (omega arith, nearest-more _ _ _ _ _ _ (c .before .before .before .before .loop .inv .1) (c .nearer .ensures))
+loop-again c =
+    let t = c .before .before .before in
+    (omega arith, nearest-more _ _ _ _ _ _ (t .before .loop .inv .1) (c .nearer .ensures))
 
 returns : tie.Need-returns Inv-loop μ-loop
 returns c =

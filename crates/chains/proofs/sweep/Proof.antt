@@ -3,19 +3,19 @@ use borrow.Author.Needs.{needs}
 use native.Mathlib.Omega.{arith}
 use mathlib.Core.Path.{_≡_}
 use Prim.Native.Nat.{_≤_, _-_}
-use Rattle.chains.specs.Inner.Levels.{Swept}
-use Rattle.chains.proofs.Levels.{swept-none, swept-more}
+use Rattle.chains.specs.Inner.Levels.{Into, Swept}
+use Rattle.chains.proofs.Rounds.{swept-none, swept-more}
 use Rattle.chains.proofs.sweep.Statement.{statement}
 use Rattle.chains.proofs.sweep.Tie as tie
 
 abbrev Inv-loop : tie.InvT-loop
-Inv-loop n w s d₀ r count₀ x₀ d count x = (x ≤ n) × (count ≤ x) × Swept x w s d₀ d r count
+Inv-loop n w s d₀ r count₀ x₀ d count x = (x ≤ n) × Swept (Into w s) 0 x d₀ d r count
 
 abbrev μ-loop : tie.MeasureT-loop
 μ-loop n w s d₀ r count₀ x₀ d count x = n - x
 
 loop-holds : tie.Need-loop-holds Inv-loop μ-loop
-loop-holds c = (search needs, search needs, swept-none _ _ _ _)
+loop-holds c = (search needs, swept-none _ _ _)
 
 visit-requires : tie.Need-visit-requires Inv-loop μ-loop
 visit-requires c κs = search needs
@@ -30,12 +30,14 @@ loop-less : tie.Need-loop-less Inv-loop μ-loop
 loop-less c = omega arith
 
 loop-again : tie.Need-loop-again Inv-loop μ-loop
-loop-again c = (omega arith, omega (arith, c .visit .ensures .few), swept-more _ _ _ _ _ _ _ _ _ (c .before .before .before .before .before .loop .inv .2) (c .visit .ensures))
+loop-again c =
+    let t = c .before .before .before .before in
+    (omega arith, swept-more _ _ _ _ _ _ _ _ _ _ (t .before .loop .inv .1) (c .visit .ensures))
 
 returns : tie.Need-returns Inv-loop μ-loop
 returns c =
     let e : c .before .loop .x ≡ c .before .before .args .n = omega arith in
-    rw e at (c .before .loop .inv .2)
+    rw e at (c .before .loop .inv .1)
 
 pub sweep-spec : {M : Type 1} → statement M
 sweep-spec =

@@ -22,7 +22,9 @@ array-share-prefix-map : tie.Need-array-share-prefix-map
 array-share-prefix-map c = search needs
 
 slice-aggregate-write : tie.Need-slice-aggregate-write
-slice-aggregate-write c = sym (length-take-le (c .before .map-length .result) (c .before .before .before .before .before .propose .last .1 .1 .0) (omega arith))
+slice-aggregate-write c =
+    let m = c .before in
+    sym (length-take-le (m .map-length .result) (m .before .before .before .before .propose .last .1 .1 .0) (omega arith))
 
 write-requires : tie.Need-write-requires
 write-requires c κs = search needs

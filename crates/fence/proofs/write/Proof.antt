@@ -1,6 +1,8 @@
 -- `fence::write` is safe: the length that write answers lies within its buffer.
 use mathlib.Core.Path.{sym}
+use Prim.Native.Nat.{_≤_}
 use native.Mathlib.Omega.{arith}
+use lib.ListN.{length}
 use lib.Seq.{length-take-le}
 use Rattle.patch.proofs.ReadsBack.{length-within}
 use borrow.Author.Needs.{needs}
@@ -16,14 +18,18 @@ write-requires c κs = search needs
 enum-known-length : tie.Need-enum-known-length
 enum-known-length c = search needs
 
+abbrev wrote : tie.After-length → tie.After-write
+wrote c = c .before .before .before
+
+-- the length that was answered lies within the buffer
+within : (c : tie.After-length) → c .length .given .0 .0 ≤ length (wrote c .write .last .1 .1 .0)
+within c = omega (arith, length-within _ _ _ _ _ _ (wrote c .write .ensures) (c .length .given .1))
+
 array-share-prefix-out : tie.Need-array-share-prefix-out
-array-share-prefix-out c =
-    omega (arith, length-within _ _ _ _ _ _ (c .before .before .before .before .write .ensures) (c .before .length .given .1))
+array-share-prefix-out c = omega (arith, within (c .before))
 
 slice-aggregate-text : tie.Need-slice-aggregate-text
-slice-aggregate-text c =
-    sym (length-take-le (c .before .before .length .given .0 .0) (c .before .before .before .before .before .write .last .1 .1 .0)
-    (omega (arith, length-within _ _ _ _ _ _ (c .before .before .before .before .before .write .ensures) (c .before .before .length .given .1))))
+slice-aggregate-text c = sym (length-take-le _ _ (within (c .before .before)))
 
 text-requires : tie.Need-text-requires
 text-requires c κs = search needs

@@ -37,10 +37,12 @@ loop-less c = search needs
 
 loop-again : tie.Need-loop-again Inv-loop μ-loop
 loop-again c =
-    let bytes = now (c .before .before .before .before .before .args .map) in
-    let at = c .before .before .before .loop in
+    let m = c .before in
+    let loop = m .before .before in
+    let bytes = now (loop .before .before .args .map) in
+    let at = loop .loop in
     let h : at .i < length bytes = omega arith in
-    let is = c .before .is-marked .ensures in
+    let is = m .is-marked .ensures in
     ⊎-elim
     (λ w. (omega arith, omega arith, omega (arith, one-more bytes (at .i) (at .count) h is (w .0 .taken), w .1)))
     (λ w. (omega arith, omega arith, omega (arith, no-more bytes (at .i) (at .count) h is (w .0 .left), w .1)))

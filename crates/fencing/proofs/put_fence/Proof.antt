@@ -6,7 +6,7 @@ use native.Mathlib.Omega.{arith}
 use native.Mathlib.Numerals.{add-one}
 use denote.Ref.{now}
 use lib.ListN.{length}
-use Rattle.listing.specs.Node.{node}
+use Rattle.listing.specs.Node.{Node, node}
 use Rattle.listing.specs.Bytes.{recordAt, nodesOf}
 use Rattle.order.specs.Patched.{fenceAfter}
 use Rattle.fencing.specs.Inner.Putting.{nextAfter}
@@ -28,13 +28,19 @@ second-at-requires c κs = search needs
 is-marked-requires : tie.Need-is-marked-requires
 is-marked-requires c κs = search needs
 
+-- where the call started, and the node that was read there
+abbrev start : tie.After-is-marked → tie.Start
+start m = let r = m .before .before .before in r .before .before .before .before
+
+abbrev old : tie.After-is-marked → Node
+old m = node (nodesOf (now (start m .args .s))) (start m .args .i)
+
 put-record-requires : tie.Need-put-record-requires
 put-record-requires c κs =
     let t = c .before in
     let m = t .before in
-    let start = m .before .before .before .before .before .before .before in
-    let a = start .args in
-    let p = start .pre in
+    let a = start m .args in
+    let p = start m .pre in
     let h : a .i < length (now (a .map)) = omega (arith, p .0 .each, p .1) in
     let one = one-more (now (a .map)) (a .i) (a .at) h (m .is-marked .ensures) (t .if1 .taken) in
     (omega (arith, p .2), omega arith, omega (arith, p .3))
@@ -49,20 +55,22 @@ returns : tie.Need-returns
 returns c =
     let t = c .before .before .before .before in
     let m = t .before in
-    let a = m .before .before .before .before .before .before .before .args in
-    let n = node (nodesOf (now (a .s))) (a .i) in
+    let a = start m .args in
+    let second = m .before in
+    let first = second .before in
     let e = sym (m .is-marked .ensures) ∙ t .if1 .taken in (
       add-one (a .at) ∙ ap (λ (b : Bool). nextAfter b (a .at)) (sym e),
-      put (now (a .out)) (recordAt (a .at)) (fenceAfter n) _ (c .before .before .put-record .ensures) (m .before .before .before .routine-at .ensures) refl refl (m .before .before .first-at .ensures) (m .before .second-at .ensures) (fence-bytes n e),
+      put (now (a .out)) (recordAt (a .at)) (fenceAfter (old m)) _ (c .before .before .put-record .ensures)
+          (first .before .routine-at .ensures) refl refl (first .first-at .ensures) (second .second-at .ensures)
+          (fence-bytes (old m) e),
     )
 
 returns-2 : tie.Need-returns-2
 returns-2 c =
     let m = c .before in
-    let a = m .before .before .before .before .before .before .before .args in
-    let n = node (nodesOf (now (a .s))) (a .i) in
+    let a = start m .args in
     let e = sym (m .is-marked .ensures) ∙ c .if1 .left in
-    (ap (λ (b : Bool). nextAfter b (a .at)) (sym e), nothing-put n (now (a .out)) (recordAt (a .at)) e)
+    (ap (λ (b : Bool). nextAfter b (a .at)) (sym e), nothing-put (old m) (now (a .out)) (recordAt (a .at)) e)
 
 pub put-fence-spec : {M : Type 1} → statement M
 put-fence-spec =

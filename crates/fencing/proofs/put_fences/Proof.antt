@@ -44,10 +44,12 @@ loop-less c = search needs
 
 loop-again : tie.Need-loop-again Inv-loop μ-loop
 loop-again c =
-    let at = c .before .before .before .before .before in
+    let one = c .before .before in
+    let at = one .before .before .before in
     let inv = at .loop .inv in
-    let p = c .before .before .put-fence in
-    let a = at .before .before .before .before .before .args in
+    let p = one .put-fence in
+    let n = at .before in
+    let a = n .before .before .before .before .args in
     let ms = marksOf (now (a .map)) in
     let node-in : at .loop .i < length (nodesOf (now (a .s))) = omega (arith, nodes-length (now (a .s))) in
     let mark-in : at .loop .i < length ms = omega (arith, marks-length (now (a .map))) in (
@@ -63,8 +65,9 @@ same-length c = c .before .loop .inv .3
 
 returns : tie.Need-returns Inv-loop μ-loop
 returns c =
-    let a = c .before .before .before .before .before .before .args in
     let at = c .before .loop in
+    let n = c .before .before in
+    let a = n .before .before .before .before .args in
     let past : length (nodesOf (now (a .s))) ≤ at .i = omega (arith, nodes-length (now (a .s))) in
     let none-left = places-end (now (a .map)) (at .i) (omega arith) in
     (omega arith, fences-put (nodesOf (now (a .s))) (marksOf (now (a .map))) (recordAt (at .at)) (at .i) past (at .inv .4))

@@ -3,7 +3,7 @@ use mathlib.Core.Path.{refl, sym, ap, _∙_}
 use mathlib.Core.Bool.{Bool}
 use native.Mathlib.Numerals.{add-one}
 use denote.Ref.{now}
-use Rattle.listing.specs.Node.{node}
+use Rattle.listing.specs.Node.{Node, node}
 use Rattle.listing.specs.Bytes.{recordAt, nodesOf}
 use Rattle.order.specs.Patched.{redirect}
 use Rattle.fencing.specs.Inner.Putting.{nextAfter}
@@ -39,15 +39,28 @@ add-result c = search needs
 same-length : tie.Need-same-length
 same-length c = search needs
 
+-- where the fields were read, where the call started, and the node that was read there
+abbrev located : tie.After-is-marked → tie.After-location-at
+located m = m .before .before .before
+
+abbrev start : tie.After-is-marked → tie.Start
+start m = let r = located m .before .before in r .before .before .before .before
+
+abbrev old : tie.After-is-marked → Node
+old m = node (nodesOf (now (start m .args .s))) (start m .args .i)
+
 returns : tie.Need-returns
 returns c =
     let t = c .before .before .before .before in
     let m = t .before in
-    let a = m .before .before .before .before .before .before .before .before .before .args in
-    let n = node (nodesOf (now (a .s))) (a .i) in
+    let a = start m .args in
+    let l = located m in
+    let k = l .before in
     let e = sym (m .is-marked .ensures) ∙ t .if1 .taken in (
       add-one (a .fence) ∙ ap (λ (b : Bool). nextAfter b (a .fence)) (sym e),
-      put (now (a .out)) (recordAt (a .i)) (redirect n (a .fence)) _ (c .before .before .put-record .ensures) (m .before .before .before .before .before .routine-at .ensures) (m .before .before .before .before .kind-at .ensures) (m .before .before .before .location-at .ensures .0) refl refl (marked-bytes n (a .fence) e),
+      put (now (a .out)) (recordAt (a .i)) (redirect (old m) (a .fence)) _ (c .before .before .put-record .ensures)
+          (k .before .routine-at .ensures) (k .kind-at .ensures) (l .location-at .ensures .0) refl refl
+          (marked-bytes (old m) (a .fence) e),
     )
 
 put-record-requires-2 : tie.Need-put-record-requires-2
@@ -60,11 +73,15 @@ returns-2 : tie.Need-returns-2
 returns-2 c =
     let t = c .before .before .before .before in
     let m = t .before in
-    let a = m .before .before .before .before .before .before .before .before .before .args in
-    let n = node (nodesOf (now (a .s))) (a .i) in
+    let a = start m .args in
+    let l = located m in
+    let k = l .before in
     let e = sym (m .is-marked .ensures) ∙ t .if1 .left in (
       ap (λ (b : Bool). nextAfter b (a .fence)) (sym e),
-      put (now (a .out)) (recordAt (a .i)) n _ (c .before .before .put-record2 .ensures) (m .before .before .before .before .before .routine-at .ensures) (m .before .before .before .before .kind-at .ensures) (m .before .before .before .location-at .ensures .0) (m .before .before .first-at .ensures) (m .before .second-at .ensures) (unmarked-bytes n (a .fence) e),
+      put (now (a .out)) (recordAt (a .i)) (old m) _ (c .before .before .put-record2 .ensures)
+          (k .before .routine-at .ensures) (k .kind-at .ensures) (l .location-at .ensures .0)
+          (m .before .before .first-at .ensures) (m .before .second-at .ensures)
+          (unmarked-bytes (old m) (a .fence) e),
     )
 
 pub put-node-spec : {M : Type 1} → statement M

@@ -1,11 +1,10 @@
 -- `listing::location_at` meets its contract.
 use borrow.Author.Needs.{needs}
 use mathlib.Core.Path.{sym, ap, ap₂, _∙_}
-use Prim.Native.Nat.{_<_}
 use native.Mathlib.Omega.{arith}
 use denote.Ref.{now}
 use Rattle.listing.specs.Node.{Node}
-use Rattle.listing.specs.Bytes.{word, countN}
+use Rattle.listing.specs.Bytes.{word}
 use Rattle.listing.proofs.Nodes.{nodes-at}
 use Rattle.listing.proofs.location_at.Statement.{statement}
 use Rattle.listing.proofs.location_at.Tie as tie
@@ -42,11 +41,10 @@ add-result c = search needs
 
 returns : tie.Need-returns
 returns c =
-    let a = c .before .before .before .before .before .args in
-    let h : a .i < countN (now (a .bytes)) = omega arith in (
-      ap₂ word (c .before .before .wide .ensures .0) (c .wide2 .ensures .0) ∙ ap (λ (n : Node). n .location) (sym (nodes-at (now (a .bytes)) (a .i) h)),
-      omega arith,
-    )
+    let low = c .before .before in
+    let start = low .before .before .before in
+    let here = nodes-at (now (start .args .bytes)) (start .args .i) (start .pre .1) in
+    (ap₂ word (low .wide .ensures .0) (c .wide2 .ensures .0) ∙ ap (λ (n : Node). n .location) (sym here), omega arith)
 
 pub location-at-spec : {M : Type 1} → statement M
 location-at-spec =

@@ -14,8 +14,14 @@ slice-write-out-2 c = simp length-set (omega arith)
 slice-write-out-3 : tie.Need-slice-write-out-3
 slice-write-out-3 c = simp length-set (omega arith)
 
+cast-out : tie.Need-cast-out
+cast-out c = search needs
+
 slice-write-out-4 : tie.Need-slice-write-out-4
 slice-write-out-4 c = simp length-set (omega arith)
+
+cast-out-2 : tie.Need-cast-out-2
+cast-out-2 c = search needs
 
 slice-write-out-5 : tie.Need-slice-write-out-5
 slice-write-out-5 c = simp length-set (omega arith)
@@ -24,7 +30,7 @@ slice-write-out-6 : tie.Need-slice-write-out-6
 slice-write-out-6 c = simp length-set (omega arith)
 
 slice-write-out-7 : tie.Need-slice-write-out-7
-slice-write-out-7 c = search needs
+slice-write-out-7 c = simp length-set (omega arith)
 
 same-length : tie.Need-same-length
 same-length c = search needs
@@ -39,7 +45,9 @@ put-heading-spec =
     slice-write-out
     slice-write-out-2
     slice-write-out-3
+    cast-out
     slice-write-out-4
+    cast-out-2
     slice-write-out-5
     slice-write-out-6
     slice-write-out-7

@@ -1,8 +1,4 @@
 -- `nyekushiro::nyekushiro_judge` meets its contract.
-use mathlib.Core.Path.{sym, subst}
-use denote.Ref.{now}
-use Rattle.listing.specs.Answer.{Answer}
-use Rattle.verdict.specs.Judging.{JudgePromise}
 use borrow.Author.Needs.{needs}
 use Rattle.nyekushiro.proofs.nyekushiro_judge.Statement.{statement}
 use Rattle.nyekushiro.proofs.nyekushiro_judge.Tie as tie
@@ -17,9 +13,7 @@ same-length : tie.Need-same-length
 same-length c = search needs
 
 returns : tie.Need-returns
-returns c =
-    let a = c .before .before .before .before .before .before .before .args in
-    subst (λ (r : Answer). JudgePromise (a .question) (now (a .bytes)) (now (a .chain)) (c .before .before .before .judge .last .1 .1 .0) r) (sym (c .of-judge .ensures)) (c .before .before .before .judge .ensures)
+returns c = rw (c .of-judge .ensures) (c .before .before .before .judge .ensures)
 
 pub nyekushiro-judge-spec : {M : Type 1} → statement M
 nyekushiro-judge-spec = tie.close (tie.spec judge-requires of-judge-requires same-length returns)

@@ -1,8 +1,4 @@
 -- `nyekushiro::nyekushiro_judge_patch` meets its contract.
-use mathlib.Core.Path.{sym, subst}
-use denote.Ref.{now}
-use Rattle.listing.specs.Answer.{Answer}
-use Rattle.patch.specs.Patching.{JudgePatchPromise}
 use borrow.Author.Needs.{needs}
 use Rattle.nyekushiro.proofs.nyekushiro_judge_patch.Statement.{statement}
 use Rattle.nyekushiro.proofs.nyekushiro_judge_patch.Tie as tie
@@ -17,9 +13,7 @@ same-length : tie.Need-same-length
 same-length c = search needs
 
 returns : tie.Need-returns
-returns c =
-    let a = c .before .before .before .before .before .before .before .before .args in
-    subst (λ (r : Answer). JudgePatchPromise (a .question) (now (a .bytes)) (now (a .map)) (now (a .chain)) (c .before .before .before .judge-patch .last .1 .1 .1 .0) r) (sym (c .of-judge .ensures)) (c .before .before .before .judge-patch .ensures)
+returns c = rw (c .of-judge .ensures) (c .before .before .before .judge-patch .ensures)
 
 pub nyekushiro-judge-patch-spec : {M : Type 1} → statement M
 nyekushiro-judge-patch-spec =

@@ -1,8 +1,4 @@
 -- `nyekushiro::nyekushiro_propose` meets its contract.
-use mathlib.Core.Path.{sym, subst}
-use denote.Ref.{now}
-use Rattle.listing.specs.Answer.{Answer}
-use Rattle.patch.specs.Patching.{ProposePromise}
 use borrow.Author.Needs.{needs}
 use Rattle.nyekushiro.proofs.nyekushiro_propose.Statement.{statement}
 use Rattle.nyekushiro.proofs.nyekushiro_propose.Tie as tie
@@ -17,9 +13,7 @@ same-length : tie.Need-same-length
 same-length c = search needs
 
 returns : tie.Need-returns
-returns c =
-    let a = c .before .before .before .before .before .before .before .args in
-    subst (λ (r : Answer). ProposePromise (a .question) (now (a .bytes)) (now (a .map)) (c .before .before .before .propose .last .1 .1 .0) r) (sym (c .of-propose .ensures)) (c .before .before .before .propose .ensures)
+returns c = rw (c .of-propose .ensures) (c .before .before .before .propose .ensures)
 
 pub nyekushiro-propose-spec : {M : Type 1} → statement M
 nyekushiro-propose-spec =

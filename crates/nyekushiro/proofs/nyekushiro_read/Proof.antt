@@ -1,5 +1,4 @@
 -- `nyekushiro::nyekushiro_read` meets its contract.
-use mathlib.Core.Path.{sym, ap, _∙_}
 use borrow.Author.Needs.{needs}
 use Rattle.nyekushiro.proofs.nyekushiro_read.Statement.{statement}
 use Rattle.nyekushiro.proofs.nyekushiro_read.Tie as tie
@@ -11,7 +10,7 @@ of-read-requires : tie.Need-of-read-requires
 of-read-requires c κs = search needs
 
 returns : tie.Need-returns
-returns c = c .of-read .ensures ∙ c .before .read .ensures
+returns c = cc
 
 pub nyekushiro-read-spec : {M : Type 1} → statement M
 nyekushiro-read-spec = tie.close (tie.spec read-requires of-read-requires returns)

@@ -1,8 +1,4 @@
 -- `nyekushiro::nyekushiro_write` meets its contract.
-use mathlib.Core.Path.{sym, subst}
-use denote.Ref.{now}
-use Rattle.listing.specs.Answer.{Answer}
-use Rattle.patch.specs.Patching.{WritePromise}
 use borrow.Author.Needs.{needs}
 use Rattle.nyekushiro.proofs.nyekushiro_write.Statement.{statement}
 use Rattle.nyekushiro.proofs.nyekushiro_write.Tie as tie
@@ -17,9 +13,7 @@ same-length : tie.Need-same-length
 same-length c = search needs
 
 returns : tie.Need-returns
-returns c =
-    let a = c .before .before .before .before .before .before .before .before .args in
-    subst (λ (r : Answer). WritePromise (now (a .bytes)) (now (a .map)) (now (a .out)) (c .before .before .before .write .last .1 .1 .0) r) (sym (c .of-write .ensures)) (c .before .before .before .write .ensures)
+returns c = rw (c .of-write .ensures) (c .before .before .before .write .ensures)
 
 pub nyekushiro-write-spec : {M : Type 1} → statement M
 nyekushiro-write-spec = tie.close (tie.spec write-requires of-write-requires same-length returns)

@@ -4,6 +4,8 @@ use mathlib.Core.List.{List, [], _∷_}
 use Prim.Native.Nat.{ℕ, suc, _-_}
 use native.Mathlib.Omega.{arith}
 use Rattle.order.specs.Inner.Table.{entryOf, numberOf}
+use Rattle.listing.specs.Kinds.{KINDS}
+use Rattle.order.specs.Need.{QUESTIONS}
 use Rattle.order.proofs.Tables.{right-at}
 use borrow.Author.Needs.{needs}
 use Rattle.order.proofs.need.Statement.{statement}
@@ -44,7 +46,8 @@ unfolding table entryOf
 returns c =
     let a = c .before .args in
     let same : suc (a .question - 1) ≡ a .question = omega arith in
-    right-at 4 5 5 (λ (q j k : ℕ). numberOf (entryOf (suc q) j k)) table [] [] tt (a .question - 1) (a .first) (a .second) (omega arith) (omega arith) (omega arith)
+    let rule = right-at QUESTIONS KINDS KINDS (λ (q j k : ℕ). numberOf (entryOf (suc q) j k)) table [] [] tt in
+    rule (a .question - 1) (a .first) (a .second) (omega arith) (omega arith) (omega arith)
     ∙ ap (λ (q : ℕ). numberOf (entryOf q (a .first) (a .second))) same
 
 pub need-spec : {M : Type 1} → statement M

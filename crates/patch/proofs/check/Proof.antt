@@ -18,7 +18,10 @@ enum-known-number c = search needs
 enum-told : tie.Need-enum-told
 enum-told c = search needs
 
-admitted : (c : tie.After-enum-told) → Admitted (now (c .before .before .before .before .before .args .bytes))
+abbrev start : tie.After-read → tie.Start
+start c = c .before .before .before
+
+admitted : (c : tie.After-enum-told) → Admitted (now (start (c .before .before) .args .bytes))
 admitted c = read-good _ _ _ (c .before .before .read .ensures) (c .enum-told .given .1) .0
 
 check-map-requires : tie.Need-check-map-requires
@@ -27,13 +30,10 @@ check-map-requires c κs = admitted-whole _ (admitted c)
 returns : tie.Need-returns
 returns c =
     let r = c .before .before .before in
-    let a = r .before .before .before .args in
-    sym (by-listing (now (a .bytes)) (now (a .map)) _ _ (read-refused _ _ _ _ (r .read .ensures) (c .before .number .given .1)))
+    sym (by-listing _ _ _ _ (read-refused _ _ _ _ (r .read .ensures) (c .before .number .given .1)))
 
 returns-2 : tie.Need-returns-2
-returns-2 c =
-    let a = c .before .before .before .before .before .before .args in
-    c .check-map .ensures ∙ sym (by-map (now (a .bytes)) (now (a .map)) (admitted (c .before)))
+returns-2 c = c .check-map .ensures ∙ sym (by-map _ _ (admitted (c .before)))
 
 pub check-spec : {M : Type 1} → statement M
 check-spec =

@@ -9,7 +9,7 @@ use Rattle.verdict.specs.Judging.{wrongQuestion}
 use Rattle.verdict.proofs.Refusing.{question-in}
 use Rattle.patch.specs.Patching.{patchRules}
 use Rattle.patch.specs.Inner.Checking.{checked}
-use Rattle.patch.proofs.MapRules.{passes-admitted, passes-fits}
+use Rattle.patch.proofs.MapRules.{passes-fits}
 use Rattle.patch.proofs.JudgeRules.{wrongly-asked, not-patched, chain-too-short, told-with-map}
 use Rattle.patch.proofs.judge_patch.Statement.{statement}
 use Rattle.patch.proofs.judge_patch.Tie as tie
@@ -18,12 +18,12 @@ wrong-question-requires : tie.Need-wrong-question-requires
 wrong-question-requires c κs = search needs
 
 returns : tie.Need-returns
-returns c =
-    let w = c .before in
-    let a = w .before .before .before .before .args in
-    wrongly-asked (a .question) (now (a .bytes)) (now (a .map)) (now (a .chain)) _ (sym (w .wrong-question .ensures) ∙ c .if1 .taken) refl
+returns c = wrongly-asked _ _ _ _ _ (sym (c .before .wrong-question .ensures) ∙ c .if1 .taken) refl
 
-asked : (c : tie.Else1) → wrongQuestion (c .before .before .before .before .before .args .question) ≡ false
+abbrev start : tie.Else1 → tie.Start
+start c = c .before .before .before .before .before
+
+asked : (c : tie.Else1) → wrongQuestion (start c .args .question) ≡ false
 asked c = sym (c .before .wrong-question .ensures) ∙ c .if1 .left
 
 check-requires : tie.Need-check-requires
@@ -36,16 +36,14 @@ enum-told : tie.Need-enum-told
 enum-told c = search needs
 
 passes : (c : tie.After-enum-told)
-    → let a = c .before .before .before .before .before .before .before .before .args in
+    → let a = start (c .before .before .before) .args in
     firstOf (patchRules (now (a .bytes)) (now (a .map))) ≡ passed
 passes c = sym (c .before .before .check .ensures) ∙ ap checked (c .enum-told .given .1)
 
 returns-2 : tie.Need-returns-2
 returns-2 c =
     let t = c .before in
-    let e = t .before .before .before in
-    let a = e .before .before .before .before .before .args in
-    chain-too-short (a .question) (now (a .bytes)) (now (a .map)) (now (a .chain)) _ (asked e) (passes t) (c .if2 .taken) refl
+    chain-too-short _ _ _ _ _ (asked (t .before .before .before)) (passes t) (c .if2 .taken) refl
 
 cast-judge-checked : tie.Need-cast-judge-checked
 cast-judge-checked c =
@@ -56,13 +54,12 @@ judge-checked-requires : tie.Need-judge-checked-requires
 judge-checked-requires c κs =
     let t = c .before .before in
     let q = question-in _ (asked (t .before .before .before)) in
-    (q .0, q .1, passes-admitted _ _ (passes t), passes-fits _ _ (passes t), c .before .if2 .left)
+    (q, passes-fits _ _ (passes t), c .before .if2 .left)
 
 returns-3 : tie.Need-returns-3
 returns-3 c =
     let k = c .before .before .before in
-    let a = k .before .before .before .before .before .before .args in
-    not-patched (a .question) (now (a .bytes)) (now (a .map)) (now (a .chain)) _ (asked (k .before)) _ _ (sym (k .check .ensures) ∙ ap checked (c .before .number .given .1)) refl
+    not-patched _ _ _ _ _ (asked (k .before)) _ _ (sym (k .check .ensures) ∙ ap checked (c .before .number .given .1)) refl
 
 same-length : tie.Need-same-length
 same-length c = search needs
@@ -72,9 +69,7 @@ returns-4 c =
     let j = c .before .before in
     let b = j .before .before in
     let t = b .before in
-    let e = t .before .before .before in
-    let a = e .before .before .before .before .before .args in
-    told-with-map (a .question) (now (a .bytes)) (now (a .map)) (now (a .chain)) _ (asked e) _ (passes t) (b .if2 .left) (j .judge-checked .ensures)
+    told-with-map _ _ _ _ _ (asked (t .before .before .before)) _ (passes t) (b .if2 .left) (j .judge-checked .ensures)
 
 pub judge-patch-spec : {M : Type 1} → statement M
 judge-patch-spec =

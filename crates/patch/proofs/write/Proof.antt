@@ -19,8 +19,11 @@ enum-known-number c = search needs
 enum-told : tie.Need-enum-told
 enum-told c = search needs
 
+abbrev start : tie.After-check → tie.Start
+start c = c .before .before .before .before
+
 passes : (c : tie.After-enum-told)
-    → let a = c .before .before .before .before .before .before .args in
+    → let a = start (c .before .before) .args in
     firstOf (patchRules (now (a .bytes)) (now (a .map))) ≡ passed
 passes c = sym (c .before .before .check .ensures) ∙ ap checked (c .enum-told .given .1)
 
@@ -30,8 +33,7 @@ write-checked-requires c κs = passes-fits _ _ (passes (c .before))
 returns : tie.Need-returns
 returns c =
     let k = c .before .before .before in
-    let a = k .before .before .before .before .args in
-    refused-early (now (a .bytes)) (now (a .map)) (now (a .out)) _ _ _ (sym (k .check .ensures) ∙ ap checked (c .before .number .given .1)) refl
+    refused-early _ _ _ _ _ _ (sym (k .check .ensures) ∙ ap checked (c .before .number .given .1)) refl
 
 same-length : tie.Need-same-length
 same-length c = search needs
@@ -39,9 +41,7 @@ same-length c = search needs
 returns-2 : tie.Need-returns-2
 returns-2 c =
     let w = c .before .before in
-    let t = w .before .before in
-    let a = t .before .before .before .before .before .before .args in
-    passed-early (now (a .bytes)) (now (a .map)) (now (a .out)) _ _ (passes t) (w .write-checked .ensures)
+    passed-early _ _ _ _ _ (passes (w .before .before)) (w .write-checked .ensures)
 
 pub write-spec : {M : Type 1} → statement M
 write-spec =

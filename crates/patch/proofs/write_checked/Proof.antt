@@ -7,6 +7,9 @@ use Rattle.patch.proofs.WriteRules.{too-short, written}
 use Rattle.patch.proofs.write_checked.Statement.{statement}
 use Rattle.patch.proofs.write_checked.Tie as tie
 
+abbrev start : tie.After-places → tie.Start
+start c = c .before .before .before .before .before
+
 node-count-requires : tie.Need-node-count-requires
 node-count-requires c κs = search needs
 
@@ -24,7 +27,7 @@ add-length c = search needs
 
 returns : tie.Need-returns
 returns c =
-    let a = c .before .before .before .before .before .before .args in
+    let a = start (c .before) .args in
     too-short (now (a .bytes)) (now (a .map)) (now (a .out)) _ (omega arith) refl
 
 put-patched-requires : tie.Need-put-patched-requires
@@ -36,7 +39,7 @@ same-length c = search needs
 returns-2 : tie.Need-returns-2
 returns-2 c =
     let put = c .before .before in
-    let a = put .before .before .before .before .before .before .before .before .args in
+    let a = start (put .before .before .before) .args in
     written (now (a .bytes)) (now (a .map)) (now (a .out)) _ _ (omega arith) (omega arith) (put .put-patched .ensures .1)
 
 pub write-checked-spec : {M : Type 1} → statement M

@@ -18,6 +18,9 @@ Inv-loop question bytes c i marks₀ n a₀ marks a =
 abbrev μ-loop : tie.MeasureT-loop
 μ-loop question bytes c i marks₀ n a₀ marks a = n - a
 
+abbrev start : tie.At-loop Inv-loop μ-loop → tie.Start Inv-loop μ-loop
+start c = c .before .before .before .before
+
 node-count-requires : tie.Need-node-count-requires Inv-loop μ-loop
 node-count-requires c κs = c .before .before .pre .0 .whole
 
@@ -25,7 +28,7 @@ loop-holds : tie.Need-loop-holds Inv-loop μ-loop
 loop-holds c = (c .node-count .ensures .0, omega arith, refl, below-none _)
 
 mark-of-requires : tie.Need-mark-of-requires Inv-loop μ-loop
-mark-of-requires c κs = (c .before .before .before .before .before .pre .0, omega arith)
+mark-of-requires c κs = (start (c .before) .pre .0, omega arith)
 
 slice-write-marks : tie.Need-slice-write-marks Inv-loop μ-loop
 slice-write-marks c = omega (arith, c .before .before .loop .inv .2)
@@ -40,7 +43,7 @@ loop-again : tie.Need-loop-again Inv-loop μ-loop
 loop-again c =
     let at = c .before .before in
     let inv = at .loop .inv in
-    let a = at .before .before .before .before .args in
+    let a = start at .args in
     let room : at .loop .a < length (at .loop .marks) = omega (arith, inv .2) in (
       inv .0,
       omega arith,

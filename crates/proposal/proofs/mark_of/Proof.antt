@@ -1,8 +1,8 @@
 -- `proposal::mark_of` meets its contract.
 use borrow.Author.Needs.{needs}
 use native.Mathlib.Omega.{arith}
-use denote.Ref.{now}
-use Rattle.listing.specs.Bytes.{nodesOf}
+use mathlib.Core.Path.{sym}
+use Rattle.listing.proofs.Nodes.{nodes-length}
 use Rattle.proposal.proofs.Drawing.{marks-it, leaves-it}
 use Rattle.proposal.proofs.mark_of.Statement.{statement}
 use Rattle.proposal.proofs.mark_of.Tie as tie
@@ -14,16 +14,10 @@ second-failing-requires : tie.Need-second-failing-requires
 second-failing-requires c κs = search needs
 
 returns : tie.Need-returns
-returns c =
-    let s = c .before in
-    let a = s .before .before .before .args in
-    marks-it (a .question) (nodesOf (now (a .bytes))) _ (a .a) _ (s .second-failing .ensures) (omega arith)
+returns c = marks-it _ _ _ _ _ (sym (nodes-length _)) (c .before .second-failing .ensures) (omega arith)
 
 returns-2 : tie.Need-returns-2
-returns-2 c =
-    let s = c .before in
-    let a = s .before .before .before .args in
-    leaves-it (a .question) (nodesOf (now (a .bytes))) _ (a .a) _ (s .second-failing .ensures) (omega arith)
+returns-2 c = leaves-it _ _ _ _ _ (sym (nodes-length _)) (c .before .second-failing .ensures) (omega arith)
 
 pub mark-of-spec : {M : Type 1} → statement M
 mark-of-spec = tie.close (tie.spec node-count-requires second-failing-requires returns returns-2)

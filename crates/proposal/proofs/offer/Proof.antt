@@ -7,6 +7,9 @@ use Rattle.proposal.proofs.Offering.{offer-15, offer-16, offered}
 use Rattle.proposal.proofs.offer.Statement.{statement}
 use Rattle.proposal.proofs.offer.Tie as tie
 
+abbrev start : tie.After-places → tie.Start
+start c = c .before .before .before .before .before
+
 node-count-requires : tie.Need-node-count-requires
 node-count-requires c κs = search needs
 
@@ -18,12 +21,12 @@ add-nodes c = search needs
 
 returns : tie.Need-returns
 returns c =
-    let a = c .before .before .before .before .before .before .args in
+    let a = start (c .before) .args in
     offer-15 (now (a .bytes)) (now (a .marks)) (now (a .map)) _ (omega arith) refl
 
 returns-2 : tie.Need-returns-2
 returns-2 c =
-    let a = c .before .before .before .before .before .before .before .args in
+    let a = start (c .before .before) .args in
     offer-16 (now (a .bytes)) (now (a .marks)) (now (a .map)) _ (omega arith) (omega arith) refl
 
 copy-requires : tie.Need-copy-requires
@@ -36,9 +39,8 @@ returns-3 : tie.Need-returns-3
 returns-3 c =
     let put = c .before .before in
     let p = put .before .before .before .before in
-    let start = p .before .before .before .before .before in
-    let a = start .args in
-    offered (now (a .bytes)) (now (a .marks)) (now (a .map)) _ (omega arith) _ (omega arith) (start .pre .1) (p .places .ensures .0) (put .copy .ensures)
+    let a = start p .args in
+    offered (now (a .bytes)) (now (a .marks)) (now (a .map)) _ (omega arith) _ (omega arith) (start p .pre .1) (p .places .ensures .0) (put .copy .ensures)
 
 pub offer-spec : {M : Type 1} → statement M
 offer-spec =

@@ -5,6 +5,7 @@ use mathlib.Core.Bool.{false}
 use native.Mathlib.Omega.{arith}
 use denote.Ref.{now}
 use Rattle.listing.specs.Read.{Admitted}
+use Rattle.listing.proofs.Reading.{admitted-whole}
 use Rattle.listing.proofs.ReadPromise.{read-refused, read-good}
 use Rattle.verdict.specs.Judging.{wrongQuestion}
 use Rattle.verdict.proofs.Refusing.{question-in}
@@ -16,13 +17,13 @@ wrong-question-requires : tie.Need-wrong-question-requires
 wrong-question-requires c κs = search needs
 
 returns : tie.Need-returns
-returns c =
-    let w = c .before in
-    let a = w .before .before .before .args in
-    ask-1 (a .question) (now (a .bytes)) (now (a .map)) _ (sym (w .wrong-question .ensures) ∙ c .if1 .taken) refl
+returns c = ask-1 _ _ _ _ (sym (c .before .wrong-question .ensures) ∙ c .if1 .taken) refl
 
-right : (c : tie.Else1) → wrongQuestion (c .before .before .before .before .args .question) ≡ false
-right c = sym (c .before .wrong-question .ensures) ∙ c .if1 .left
+abbrev start : tie.Else1 → tie.Start
+start c = c .before .before .before .before
+
+asked : (c : tie.Else1) → wrongQuestion (start c .args .question) ≡ false
+asked c = sym (c .before .wrong-question .ensures) ∙ c .if1 .left
 
 read-requires : tie.Need-read-requires
 read-requires c κs = search needs
@@ -33,24 +34,23 @@ enum-known-number c = search needs
 enum-told : tie.Need-enum-told
 enum-told c = search needs
 
-admitted : (c : tie.After-enum-told) → Admitted (now (c .before .before .before .before .before .before .before .args .bytes))
+admitted : (c : tie.After-enum-told) → Admitted (now (start (c .before .before .before) .args .bytes))
 admitted c = read-good _ _ _ (c .before .before .read .ensures) (c .enum-told .given .1) .0
 
 cast-propose-for : tie.Need-cast-propose-for
 cast-propose-for c =
-    let q = question-in _ (right (c .before .before .before)) in
+    let q = question-in _ (asked (c .before .before .before)) in
     omega arith
 
 propose-for-requires : tie.Need-propose-for-requires
 propose-for-requires c κs =
-    let q = question-in _ (right (c .before .before .before .before)) in
-    (q .0, q .1, admitted (c .before))
+    let q = question-in _ (asked (c .before .before .before .before)) in
+    (q, admitted-whole _ (admitted (c .before)))
 
 returns-2 : tie.Need-returns-2
 returns-2 c =
     let r = c .before .before .before in
-    let a = r .before .before .before .before .before .args in
-    ask-2-12 (a .question) (now (a .bytes)) (now (a .map)) _ _ _ (right (r .before)) (read-refused _ _ _ _ (r .read .ensures) (c .before .number .given .1)) refl
+    ask-2-12 _ _ _ _ _ _ (asked (r .before)) (read-refused _ _ _ _ (r .read .ensures) (c .before .number .given .1)) refl
 
 same-length : tie.Need-same-length
 same-length c = search needs
@@ -59,9 +59,7 @@ returns-3 : tie.Need-returns-3
 returns-3 c =
     let f = c .before .before in
     let t = f .before .before in
-    let r = t .before .before in
-    let a = r .before .before .before .before .before .args in
-    ask-passes (a .question) (now (a .bytes)) (now (a .map)) _ _ (right (r .before)) (admitted t) (f .propose-for .ensures)
+    ask-passes _ _ _ _ _ (asked (t .before .before .before)) (admitted t) (f .propose-for .ensures)
 
 pub propose-spec : {M : Type 1} → statement M
 propose-spec =

@@ -25,9 +25,10 @@ within-requires c κs = search needs
 
 returns-3 : tie.Need-returns-3
 returns-3 c =
-    let w = c .before .before .before .before .before .before in
-    let k = w .before .args in
-    calm-of (k .m .now) (k .w .now) (k .n) (k .a) _ _ (c .within .result) (w .wide .ensures .0) (c .within .ensures)
+    let has = c .before .before .before in
+    let wide = has .before .before .before in
+    let a = wide .before .args in
+    calm-of (a .m .now) (a .w .now) (a .n) (a .a) _ _ (c .within .result) (wide .wide .ensures .0) (c .within .ensures)
 
 pub calm-spec : {M : Type 1} → statement M
 calm-spec =

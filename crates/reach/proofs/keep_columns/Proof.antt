@@ -27,13 +27,16 @@ loop-less : tie.Need-loop-less Inv-loop μ-loop
 loop-less c = omega arith
 
 loop-again : tie.Need-loop-again Inv-loop μ-loop
-loop-again c = (omega arith, thinned-more _ _ _ _ (c .before .before .before .before .loop .inv .1) (sifts _ _ _ _ (c .sift .ensures)))
+loop-again c =
+    let at = c .before .before .before .before in
+    (omega arith, thinned-more _ _ _ _ (at .loop .inv .1) (sifts _ _ _ _ (c .sift .ensures)))
 
 returns : tie.Need-returns Inv-loop μ-loop
 returns c =
-    let p = c .before .before .pre in
-    let e : c .before .loop .a ≡ c .before .before .args .n = omega arith in
-    thinned-all _ _ _ (p .0) (p .1) (rw e at (c .before .loop .inv .1))
+    let at = c .before in
+    let p = at .before .pre in
+    let e : at .loop .a ≡ at .before .args .n = omega arith in
+    thinned-all _ _ _ (p .0) (p .1) (rw e at (at .loop .inv .1))
 
 pub keep-columns-spec : {M : Type 1} → statement M
 keep-columns-spec =

@@ -33,18 +33,22 @@ loop-less c = omega arith
 
 loop-again : tie.Need-loop-again Inv-loop μ-loop
 loop-again c =
-    let inv = c .before .before .before .before .loop .inv in
-    let s = c .before .before .before .before .before .args .s .now in
+    let has = c .before in
+    let at = has .before .before .before in
+    let s = at .before .args .s .now in
+    let out = tells-no _ (has .has .result) in
+    let in-s = tells-yes _ (has .has .result) in
     ⊎-elim
-    (λ q. (omega arith, rw (q .3) (thinned-more _ _ _ _ (inv .1) (drops s _ _ _ (tells-no _ (c .before .has .result) (q .0 .taken) (c .before .has .ensures)) (q .2 .ensures)))))
-    (λ q. (omega arith, rw (q .1) (thinned-more _ _ _ _ (inv .1) (stays s _ _ (tells-yes _ (c .before .has .result) (q .0 .left) (c .before .has .ensures))))))
+    (λ q. (omega arith, rw (q .3) (thinned-more _ _ _ _ (at .loop .inv .1) (drops s _ _ _ (out (q .0 .taken) (has .has .ensures)) (q .2 .ensures)))))
+    (λ q. (omega arith, rw (q .1) (thinned-more _ _ _ _ (at .loop .inv .1) (stays s _ _ (in-s (q .0 .left) (has .has .ensures))))))
     (c .if1 .came)
 
 returns : tie.Need-returns Inv-loop μ-loop
 returns c =
-    let p = c .before .before .pre in
-    let e : c .before .loop .a ≡ c .before .before .args .n = omega arith in
-    thinned-all _ _ _ (p .0) (p .1) (rw e at (c .before .loop .inv .1))
+    let at = c .before in
+    let p = at .before .pre in
+    let e : at .loop .a ≡ at .before .args .n = omega arith in
+    thinned-all _ _ _ (p .0) (p .1) (rw e at (at .loop .inv .1))
 
 pub keep-rows-spec : {M : Type 1} → statement M
 keep-rows-spec =

@@ -27,14 +27,16 @@ loop-less c = omega arith
 
 loop-again : tie.Need-loop-again Inv-loop μ-loop
 loop-again c =
-    let p = c .before .before .before .before .pre in
-    (omega arith, thinned-more _ _ _ _ (c .before .before .before .loop .inv .1) (parts _ _ _ (omega arith) (c .take-out .ensures)))
+    let at = c .before .before .before in
+    let p = at .before .pre in
+    (omega arith, thinned-more _ _ _ _ (at .loop .inv .1) (parts _ _ _ (omega arith) (c .take-out .ensures)))
 
 returns : tie.Need-returns Inv-loop μ-loop
 returns c =
-    let p = c .before .before .pre in
-    let e : c .before .loop .a ≡ c .before .before .args .n = omega arith in
-    thinned-all _ _ _ (p .0) (p .1) (rw e at (c .before .loop .inv .1))
+    let at = c .before in
+    let p = at .before .pre in
+    let e : at .loop .a ≡ at .before .args .n = omega arith in
+    thinned-all _ _ _ (p .0) (p .1) (rw e at (at .loop .inv .1))
 
 pub no-loops-spec : {M : Type 1} → statement M
 no-loops-spec =

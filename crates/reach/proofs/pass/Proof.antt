@@ -32,18 +32,20 @@ loop-less c = omega arith
 
 loop-again : tie.Need-loop-again Inv-loop μ-loop
 loop-again c =
-    let inv = c .before .before .before .before .before .loop .inv in
-    let p = c .before .before .before .before .before .before .pre in
-    let hk : c .before .before .before .before .before .before .args .k < 128 = omega arith in
+    let has = c .before in
+    let at = has .before .before .before .before in
+    let p = at .before .pre in
+    let hk : at .before .args .k < 128 = omega arith in
     ⊎-elim
-    (λ q. (omega arith, rw (q .3) (passed-or _ _ _ _ hk (inv .1) _ (rw (q .0 .taken) at (c .before .has .ensures)) (q .2 .ensures))))
-    (λ q. (omega arith, rw (q .1) (passed-skip _ _ _ _ hk (inv .1) (rw (q .0 .left) at (c .before .has .ensures)))))
+    (λ q. (omega arith, rw (q .3) (passed-or _ _ _ _ hk (at .loop .inv .1) _ (rw (q .0 .taken) at (has .has .ensures)) (q .2 .ensures))))
+    (λ q. (omega arith, rw (q .1) (passed-skip _ _ _ _ hk (at .loop .inv .1) (rw (q .0 .left) at (has .has .ensures)))))
     (c .if1 .came)
 
 returns : tie.Need-returns Inv-loop μ-loop
 returns c =
-    let e : c .before .loop .a ≡ c .before .before .args .n = omega arith in
-    rw e at (c .before .loop .inv .1)
+    let at = c .before in
+    let e : at .loop .a ≡ at .before .args .n = omega arith in
+    rw e at (at .loop .inv .1)
 
 pub pass-spec : {M : Type 1} → statement M
 pass-spec =

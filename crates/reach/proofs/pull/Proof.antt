@@ -22,11 +22,13 @@ or-row-requires c κs = search needs
 
 returns-3 : tie.Need-returns-3
 returns-3 c =
-    let e = c .before .before in
-    let h = e .before in
-    let f = h .before .before in
-    let k = f .before .before in
-    rw (f .before .wide .ensures .0) at (pulled-or (k .args .m .now) _ _ (k .args .n) _ _ (f .if1 .left) (tells-yes _ (h .has .result) (e .if2 .left) (h .has .ensures)) (c .or-row .ensures))
+    let else2 = c .before .before in
+    let has = else2 .before in
+    let else1 = has .before .before in
+    let wide = else1 .before in
+    let a = wide .before .args in
+    let of-m = tells-yes _ (has .has .result) (else2 .if2 .left) (has .has .ensures) in
+    rw (wide .wide .ensures .0) at (pulled-or (a .m .now) _ _ (a .n) _ _ (else1 .if1 .left) of-m (c .or-row .ensures))
 
 pub pull-spec : {M : Type 1} → statement M
 pull-spec =

@@ -12,7 +12,9 @@ keep-rows-requires : tie.Need-keep-rows-requires
 keep-rows-requires c κs = (c .before .before .before .pre .0, holds-low (c .before .keep-columns .ensures))
 
 returns : tie.Need-returns
-returns c = among _ _ _ _ _ (c .before .before .before .before .pre .0) (c .before .before .keep-columns .ensures) (c .keep-rows .ensures)
+returns c =
+    let columns = c .before .before in
+    among _ _ _ _ _ (columns .before .before .pre .0) (columns .keep-columns .ensures) (c .keep-rows .ensures)
 
 pub restrict-spec : {M : Type 1} → statement M
 restrict-spec = tie.close (tie.spec keep-columns-requires keep-rows-requires returns)

@@ -2,9 +2,11 @@
 use borrow.Author.Needs.{needs}
 use native.Mathlib.Omega.{arith}
 use mathlib.Core.Path.{_≡_}
-use Prim.Native.Nat.{_≤_, _-_}
+use Prim.Native.Nat.{_≤_, _<_, _-_}
 use Rattle.listing.specs.Bytes.{countN, nodesOf}
-use Rattle.reach.proofs.Sweeps.{Calms, calms-more, vouched}
+use Rattle.listing.specs.Inner.Whole.{Whole}
+use Rattle.rows.proofs.Tells.{vouched}
+use Rattle.reach.proofs.Sweeps.{Calms, calms-more}
 use Rattle.reach.proofs.settled.Statement.{statement}
 use Rattle.reach.proofs.settled.Tie as tie
 
@@ -20,8 +22,14 @@ node-count-requires c κs = search needs
 loop-holds : tie.Need-loop-holds Inv-loop μ-loop
 loop-holds c = (c .node-count .ensures .0, omega arith, c .node-count .ensures .1, λ a b h. absurd (omega arith))
 
+-- a is a node of the listing
+a-node : (c : tie.In-loop Inv-loop μ-loop)
+    → let bytes = c .before .before .before .before .args .bytes .now in
+    Whole bytes × (c .before .loop .a < countN bytes)
+a-node c = (c .before .before .before .before .pre, omega arith)
+
 first-at-requires : tie.Need-first-at-requires Inv-loop μ-loop
-first-at-requires c κs = (c .before .before .before .before .pre, omega arith)
+first-at-requires c κs = a-node c
 
 calm-requires : tie.Need-calm-requires Inv-loop μ-loop
 calm-requires c κs = omega arith
@@ -30,7 +38,7 @@ returns : tie.Need-returns Inv-loop μ-loop
 returns c = tt
 
 second-at-requires : tie.Need-second-at-requires Inv-loop μ-loop
-second-at-requires c κs = (c .before .before .before .before .before .before .before .pre, omega arith)
+second-at-requires c κs = a-node (c .before .before .before)
 
 calm-requires-2 : tie.Need-calm-requires-2 Inv-loop μ-loop
 calm-requires-2 c κs = omega arith
@@ -46,17 +54,18 @@ loop-less c = omega arith
 
 loop-again : tie.Need-loop-again Inv-loop μ-loop
 loop-again c =
-    let e = c .before .before .before in
-    let f = e .before .before in
-    let at = f .before .before in
+    let calm2 = c .before in
+    let else1 = calm2 .before .before in
+    let calm1 = else1 .before in
+    let at = calm1 .before .before .before in
     let inv = at .loop .inv in
-    let k = at .before .before .before in (
+    let a = at .before .before .before .args in (
       inv .0,
       omega arith,
       inv .2,
-      calms-more (nodesOf (k .args .bytes .now)) (k .args .m .now) (k .args .w .now) _ _ (inv .3)
-          (vouched _ (e .before .calm .result) (e .if1 .left) (rw (f .first-at .ensures) at (e .before .calm .ensures)))
-          (vouched _ (c .before .calm2 .result) (c .if2 .left) (rw (c .before .before .second-at .ensures) at (c .before .calm2 .ensures))),
+      calms-more (nodesOf (a .bytes .now)) (a .m .now) (a .w .now) _ _ (inv .3)
+          (vouched _ (calm1 .calm .result) (else1 .if1 .left) (rw (calm1 .before .first-at .ensures) at (calm1 .calm .ensures)))
+          (vouched _ (calm2 .calm2 .result) (c .if2 .left) (rw (calm2 .before .second-at .ensures) at (calm2 .calm2 .ensures))),
     )
 
 returns-3 : tie.Need-returns-3 Inv-loop μ-loop

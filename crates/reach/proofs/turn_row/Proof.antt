@@ -2,7 +2,7 @@
 use borrow.Author.Needs.{needs}
 use native.Mathlib.Omega.{arith}
 use mathlib.Core.Path.{_≡_}
-use Prim.Native.Nat.{_+_, _≤_, _<_, _-_}
+use Prim.Native.Nat.{_≤_, _<_, _-_}
 use Rattle.rows.specs.Inner.Rows.{Has}
 use Rattle.reach.specs.Inner.Whole.{Turning}
 use Rattle.reach.proofs.Steps.{turning-none, turning-jump, turning-put}
@@ -39,15 +39,19 @@ loop-less c = omega (arith, c .next2 .ensures .from)
 loop-again : tie.Need-loop-again Inv-loop μ-loop
 loop-again c =
     let o = c .next2 .ensures in
-    let t = c .before .before .before .before in
-    let inv = t .before .loop .inv in
-    let ha : t .before .before .before .before .args .a < 128 = omega arith in
-    (o .low, turning-jump _ _ _ _ _ ha (turning-put _ _ _ _ _ ha (inv .1) _ (inv .2 (t .loop-test .taken)) (c .before .before .put .ensures)) _ (o .from) (o .none), o .here)
+    let put = c .before .before in
+    let here = put .before .before in
+    let at = here .before in
+    let inv = at .loop .inv in
+    let ha : at .before .before .before .args .a < 128 = omega arith in
+    let more = turning-put _ _ _ _ _ ha (inv .1) _ (inv .2 (here .loop-test .taken)) (put .put .ensures) in
+    (o .low, turning-jump _ _ _ _ _ ha more _ (o .from) (o .none), o .here)
 
 returns : tie.Need-returns Inv-loop μ-loop
 returns c =
-    let e : c .before .loop .b ≡ c .before .before .before .before .args .n = omega arith in
-    rw e at (c .before .loop .inv .1)
+    let at = c .before in
+    let e : at .loop .b ≡ at .before .before .before .args .n = omega arith in
+    rw e at (at .loop .inv .1)
 
 pub turn-row-spec : {M : Type 1} → statement M
 turn-row-spec =

@@ -1,7 +1,6 @@
 -- The links and the walks of a listing, as rows.
 use mathlib.Core.Path.{_≡_}
 use mathlib.Core.Logic.{_⊎_}
-use mathlib.Core.Bool.{Bool, true, false}
 use mathlib.Core.List.{List}
 use Prim.Native.Nat.{ℕ, _<_}
 use Rattle.listing.specs.Node.{Listing, node}
@@ -9,12 +8,11 @@ use Rattle.order.specs.Rows.{All}
 use Rattle.order.specs.Walks.{Next, Succ, Walk}
 use Rattle.rows.specs.Inner.Rows.{Has}
 use Rattle.rows.specs.Inner.Touched.{Covers}
+use Rattle.rows.specs.Inner.Growing.{RowGrown}
 
 -- b is put into row a if it is a node: w before, v after
-pub record Linked (w v : List ℕ) (n a b : ℕ) : Type 0 where
-  pub gives : (x y : ℕ) → y < 128 → Has v x y → Has w x y ⊎ ((x ≡ a) × (y ≡ b) × (b < n))
-  pub keeps : (x y : ℕ) → y < 128 → Has w x y → Has v x y
-  pub new : b < n → Has v a b
+abbrev pub Linked : List ℕ → List ℕ → ℕ → ℕ → ℕ → Type 0
+Linked w v n a b = RowGrown (λ x y. b ≡ y) w v a n
 
 -- a walk from a to b with only nodes of m inside
 abbrev pub Walked : Listing → List ℕ → ℕ → ℕ → Type 0

@@ -4,7 +4,7 @@ use mathlib.Core.Logic.{_⊎_}
 use mathlib.Core.List.{List}
 use Prim.Native.Nat.{ℕ, _<_}
 use Rattle.order.specs.Rows.{All, Row}
-use Rattle.rows.specs.Inner.Rows.{at, Has, Link}
+use Rattle.rows.specs.Inner.Rows.{Has, Link}
 
 -- one link or more from a to b, with only nodes of m in between
 abbrev pub Through : ℕ → List ℕ → List ℕ → ℕ → ℕ → Type 0
@@ -15,16 +15,16 @@ abbrev pub Then : ℕ → List ℕ → List ℕ → ℕ → ℕ → Type 0
 Then n r w a b = (c : ℕ) × (c < n) × Has r a c × Has w c b
 
 -- the relation turned round
-abbrev pub Turned : List ℕ → ℕ → ℕ → Type 0
-Turned w a b = Has w b a
+abbrev pub Converse : List ℕ → ℕ → ℕ → Type 0
+Converse w a b = Has w b a
 
 -- what starts in s
-abbrev pub From : List ℕ → List ℕ → ℕ → ℕ → Type 0
-From s w a b = Has w a b × Has s 0 a
+abbrev pub StartsIn : List ℕ → List ℕ → ℕ → ℕ → Type 0
+StartsIn s w a b = Has w a b × Has s 0 a
 
 -- what ends in s
-abbrev pub To : List ℕ → List ℕ → ℕ → ℕ → Type 0
-To s w a b = Has w a b × Has s 0 b
+abbrev pub EndsIn : List ℕ → List ℕ → ℕ → ℕ → Type 0
+EndsIn s w a b = Has w a b × Has s 0 b
 
 -- what starts and ends in s
 abbrev pub Among : List ℕ → List ℕ → ℕ → ℕ → Type 0
@@ -39,13 +39,6 @@ pub record Passed (w v : List ℕ) (n k : ℕ) : Type 0 where
   pub gives : (x y : ℕ) → y < 128 → Has v x y → Has w x y ⊎ (Has w x k × Has w k y)
   pub keeps : (x y : ℕ) → y < 128 → Has w x y → Has v x y
   pub done : (x y : ℕ) → x < n → y < 128 → Has w x k → Has w k y → Has v x y
-
--- into row x of v the rows below n of w are poured that row x of r names; u is v after
-pub record Pouring (r w v u : List ℕ) (x n : ℕ) : Type 0 where
-  pub gives : (y : ℕ) → y < 128 → Has u x y → Has v x y ⊎ Then n r w x y
-  pub keeps : (y : ℕ) → y < 128 → Has v x y → Has u x y
-  pub done : (c y : ℕ) → c < n → y < 128 → Has r x c → Has w c y → Has u x y
-  pub rest : (z y : ℕ) → y < 128 → (z ≡ x → ⊥) → at u z y ≡ at v z y
 
 -- a is put into each row of v below n that row a of w names; u is v after
 pub record Turning (w v u : List ℕ) (a n : ℕ) : Type 0 where

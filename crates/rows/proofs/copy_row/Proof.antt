@@ -1,6 +1,6 @@
--- `suspects::copy_row` meets its contract.
+-- `rows::copy_row` meets its contract.
 use borrow.Author.Needs.{needs}
-use Rattle.rows.proofs.Rows.{copied}
+use Rattle.rows.proofs.OneRow.{copied}
 use Rattle.rows.proofs.copy_row.Statement.{statement}
 use Rattle.rows.proofs.copy_row.Tie as tie
 

@@ -1,34 +1,19 @@
 -- `rows::empty_row` meets its contract.
+use Rattle.rows.proofs.OneRow.{emptied}
 use borrow.Author.Needs.{needs}
-use Rattle.rows.proofs.Rows.{emptied}
 use Rattle.rows.proofs.empty_row.Statement.{statement}
 use Rattle.rows.proofs.empty_row.Tie as tie
 
-mul-i : tie.Need-mul-i
-mul-i c = search needs
-
-mul-w : tie.Need-mul-w
-mul-w c = search needs
-
-slice-write-w : tie.Need-slice-write-w
-slice-write-w c = search needs
-
-add-w : tie.Need-add-w
-add-w c = search needs
-
-mul-w-2 : tie.Need-mul-w-2
-mul-w-2 c = search needs
-
-slice-write-w-2 : tie.Need-slice-write-w-2
-slice-write-w-2 c = search needs
+set-row-requires : tie.Need-set-row-requires
+set-row-requires c κs = search needs
 
 same-length : tie.Need-same-length
 same-length c = search needs
 
 returns : tie.Need-returns
-returns c = emptied _ _ (c .pre)
+returns c =
+    let stored = c .before .before in
+    emptied (stored .before .before .before .pre) (stored .set-row .ensures)
 
 pub empty-row-spec : {M : Type 1} → statement M
-empty-row-spec =
-    tie.close
-    (tie.spec mul-i mul-w slice-write-w add-w mul-w-2 slice-write-w-2 same-length returns)
+empty-row-spec = tie.close (tie.spec set-row-requires same-length returns)

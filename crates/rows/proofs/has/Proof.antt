@@ -1,5 +1,5 @@
 -- `rows::has` meets its contract.
-use Rattle.rows.proofs.Rows.{tells-has}
+use Rattle.rows.proofs.Places.{tells-has}
 use Rattle.rows.specs.Inner.Rows.{bit}
 use mathlib.Core.Path.{refl}
 use borrow.Author.Needs.{needs}

@@ -5,7 +5,7 @@ use mathlib.Core.Path.{_≡_, refl}
 use Prim.Native.Nat.{_≤_, _-_}
 use lib.ListN.{length}
 use lib.Bits.{bitAnd}
-use Rattle.rows.proofs.Rows.{Done, done-none, done-more, common}
+use Rattle.rows.proofs.AllWords.{Done, done-none, done-more, common}
 use Rattle.rows.proofs.keep_common.Statement.{statement}
 use Rattle.rows.proofs.keep_common.Tie as tie
 
@@ -51,7 +51,7 @@ same-length c = c .before .loop .inv .2 .long
 returns : tie.Need-returns Inv-loop μ-loop
 returns c =
     let g = c .before .loop .inv .2 in
-    common _ _ _ (c .before .before .pre) (g .long) (λ j h. g .done j (omega arith))
+    common _ _ _ (g .long) (λ j h. g .done j (omega arith))
 
 pub keep-common-spec : {M : Type 1} → statement M
 keep-common-spec =

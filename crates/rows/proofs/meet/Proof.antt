@@ -1,71 +1,52 @@
 -- `rows::meet` meets its contract.
-use Rattle.rows.proofs.Rows.{meet-low, meet-last}
-use Prim.Native.Nat.{_+_, _*_, _-_}
+use Prim.Native.Nat.{_+_, _*_}
+use Rattle.rows.proofs.TwoRows.{meet-low, meet-last}
 use borrow.Author.Needs.{needs}
 use Rattle.rows.proofs.meet.Statement.{statement}
 use Rattle.rows.proofs.meet.Tie as tie
 
-mul-i : tie.Need-mul-i
-mul-i c = search needs
+low-word-requires : tie.Need-low-word-requires
+low-word-requires c κs = search needs
 
-mul-j : tie.Need-mul-j
-mul-j c = search needs
-
-mul-if1 : tie.Need-mul-if1
-mul-if1 c = search needs
-
-shared-slice-read-if1 : tie.Need-shared-slice-read-if1
-shared-slice-read-if1 c = search needs
-
-mul-if1-2 : tie.Need-mul-if1-2
-mul-if1-2 c = search needs
-
-shared-slice-read-if1-2 : tie.Need-shared-slice-read-if1-2
-shared-slice-read-if1-2 c = search needs
+low-word-requires-2 : tie.Need-low-word-requires-2
+low-word-requires-2 c κs = search needs
 
 returns : tie.Need-returns
 returns c =
-    let a = c .before .before .before .args in
-    meet-low _ _ _ _ (c .before .before .shared-slice-known .given (2 * a .a) .fits) (c .before .shared-slice-known2 .given (2 * a .z) .fits) (c .if1 .taken)
+    let low2 = c .before in
+    let low = low2 .before in
+    let s = low .before in
+    let w = s .before in
+    let a = w .before .args in
+    meet-low (a .w .now) (a .s .now) (a .a) (a .z) (w .shared-slice-known .given (2 * a .a) .fits) (s .shared-slice-known2 .given (2 * a .z) .fits)
+    (rw (low .low-word .ensures, low2 .low-word2 .ensures) at (c .if1 .taken))
 
-add-result : tie.Need-add-result
-add-result c = search needs
+high-word-requires : tie.Need-high-word-requires
+high-word-requires c κs = search needs
 
-mul-result : tie.Need-mul-result
-mul-result c = search needs
-
-shared-slice-read-result : tie.Need-shared-slice-read-result
-shared-slice-read-result c = search needs
-
-add-result-2 : tie.Need-add-result-2
-add-result-2 c = search needs
-
-mul-result-2 : tie.Need-mul-result-2
-mul-result-2 c = search needs
-
-shared-slice-read-result-2 : tie.Need-shared-slice-read-result-2
-shared-slice-read-result-2 c = search needs
+high-word-requires-2 : tie.Need-high-word-requires-2
+high-word-requires-2 c κs = search needs
 
 returns-2 : tie.Need-returns-2
 returns-2 c =
-    let a = c .before .before .before .before .before .args in
-    meet-last (a .w .now) (a .s .now) (a .a) (a .z) (c .before .before .if1 .left) (c .before .shared-slice-known3 .given (2 * a .a + 1) .fits) (c .shared-slice-known4 .given (2 * a .z + 1) .fits)
+    let high = c .before in
+    let else1 = high .before in
+    let low2 = else1 .before in
+    let low = low2 .before in
+    let s = low .before in
+    let w = s .before in
+    let a = w .before .args in
+    rw (high .high-word .ensures, c .high-word2 .ensures)
+    (meet-last (a .w .now) (a .s .now) (a .a) (a .z) (rw (low .low-word .ensures, low2 .low-word2 .ensures) at (else1 .if1 .left))
+    (w .shared-slice-known .given (2 * a .a + 1) .fits) (s .shared-slice-known2 .given (2 * a .z + 1) .fits))
 
 pub meet-spec : {M : Type 1} → statement M
 meet-spec =
     tie.close
     (tie.spec
-    mul-i
-    mul-j
-    mul-if1
-    shared-slice-read-if1
-    mul-if1-2
-    shared-slice-read-if1-2
+    low-word-requires
+    low-word-requires-2
     returns
-    add-result
-    mul-result
-    shared-slice-read-result
-    add-result-2
-    mul-result-2
-    shared-slice-read-result-2
+    high-word-requires
+    high-word-requires-2
     returns-2)

@@ -1,6 +1,6 @@
 -- `rows::next` meets its contract.
 use native.Mathlib.Omega.{arith}
-use Rattle.rows.proofs.Rows.{next-low, next-over, next-above}
+use Rattle.rows.proofs.NextNode.{next-low, next-over, next-above}
 use borrow.Author.Needs.{needs}
 use Rattle.rows.proofs.next.Statement.{statement}
 use Rattle.rows.proofs.next.Tie as tie
@@ -20,52 +20,53 @@ returns-2 c =
       none = λ z h l. absurd (omega arith);
     }
 
-mul-i : tie.Need-mul-i
-mul-i c = search needs
-
-mul-lo : tie.Need-mul-lo
-mul-lo c = search needs
-
-shared-slice-read-lo : tie.Need-shared-slice-read-lo
-shared-slice-read-lo c = search needs
-
-add-hi : tie.Need-add-hi
-add-hi c = search needs
-
-mul-hi : tie.Need-mul-hi
-mul-hi c = search needs
-
-shared-slice-read-hi : tie.Need-shared-slice-read-hi
-shared-slice-read-hi c = search needs
+high-word-requires : tie.Need-high-word-requires
+high-word-requires c κs = search needs
 
 lowest-requires : tie.Need-lowest-requires
 lowest-requires c κs = search needs
+
+add-lesser : tie.Need-add-lesser
+add-lesser c = search needs
 
 lesser-requires : tie.Need-lesser-requires
 lesser-requires c κs = search needs
 
 returns-3 : tie.Need-returns-3
 returns-3 c =
-    let o = c .before .before in
-    let e = o .before .before .before .before .before .before in
-    let k = e .before .before in
-    rw (c .lesser .ensures) (next-low (k .args .w .now) (k .args .a) (k .args .b) (k .args .n) (e .if1 .left) (k .pre .2) _ (o .lowest .ensures) (c .before .if4 .taken))
+    let least = c .before in
+    let high = least .before in
+    let then3 = high .before in
+    let else1 = then3 .before .before .before in
+    let start = else1 .before .before in
+    let a = start .args in
+    rw (c .lesser .ensures)
+    (next-above (a .w .now) (a .a) (a .b) (a .n) (else1 .if1 .left) (start .pre .2) _
+    (then3 .if3 .taken) (rw (high .high-word .ensures) at (least .lowest .ensures)))
+
+low-word-requires : tie.Need-low-word-requires
+low-word-requires c κs = search needs
 
 lowest-requires-2 : tie.Need-lowest-requires-2
 lowest-requires-2 c κs = search needs
-
-add-lesser : tie.Need-add-lesser
-add-lesser c = search needs
 
 lesser-requires-2 : tie.Need-lesser-requires-2
 lesser-requires-2 c κs = search needs
 
 returns-4 : tie.Need-returns-4
 returns-4 c =
-    let o = c .before .before .before in
-    let e = o .before .before .before .before .before .before in
-    let k = e .before .before in
-    rw (c .lesser2 .ensures) (next-over (k .args .w .now) (k .args .a) (k .args .b) (k .args .n) (e .if1 .left) (k .pre .2) _ _ (o .lowest .ensures) (c .before .before .if4 .left) (o .before .if3 .taken) (c .before .lowest2 .ensures))
+    let then4 = c .before in
+    let least = then4 .before in
+    let low = least .before in
+    let else1 = low .before .before .before .before in
+    let start = else1 .before .before in
+    let a = start .args in
+    rw (c .lesser2 .ensures)
+    (next-low (a .w .now) (a .a) (a .b) (a .n) (else1 .if1 .left) (start .pre .2) _
+    (rw (low .low-word .ensures) at (least .lowest2 .ensures)) (then4 .if4 .taken))
+
+high-word-requires-2 : tie.Need-high-word-requires-2
+high-word-requires-2 c κs = search needs
 
 lowest-requires-3 : tie.Need-lowest-requires-3
 lowest-requires-3 c κs = search needs
@@ -78,10 +79,19 @@ lesser-requires-3 c κs = search needs
 
 returns-5 : tie.Need-returns-5
 returns-5 c =
-    let o = c .before .before in
-    let e = o .before .before .before .before .before in
-    let k = e .before .before in
-    rw (c .lesser3 .ensures) (next-above (k .args .w .now) (k .args .a) (k .args .b) (k .args .n) (e .if1 .left) (k .pre .2) _ (o .if3 .left) (c .before .lowest3 .ensures))
+    let least2 = c .before in
+    let high = least2 .before in
+    let else4 = high .before in
+    let least = else4 .before in
+    let low = least .before in
+    let else3 = low .before in
+    let else1 = else3 .before .before .before in
+    let start = else1 .before .before in
+    let a = start .args in
+    rw (c .lesser3 .ensures)
+    (next-over (a .w .now) (a .a) (a .b) (a .n) (else1 .if1 .left) (start .pre .2) _ _
+    (rw (low .low-word .ensures) at (least .lowest2 .ensures)) (else4 .if4 .left) (else3 .if3 .left)
+    (rw (high .high-word2 .ensures) at (least2 .lowest3 .ensures)))
 
 pub next-spec : {M : Type 1} → statement M
 next-spec =
@@ -90,19 +100,16 @@ next-spec =
     returns
     has-requires
     returns-2
-    mul-i
-    mul-lo
-    shared-slice-read-lo
-    add-hi
-    mul-hi
-    shared-slice-read-hi
+    high-word-requires
     lowest-requires
+    add-lesser
     lesser-requires
     returns-3
+    low-word-requires
     lowest-requires-2
-    add-lesser
     lesser-requires-2
     returns-4
+    high-word-requires-2
     lowest-requires-3
     add-lesser-2
     lesser-requires-3

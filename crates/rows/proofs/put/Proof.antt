@@ -1,5 +1,5 @@
 -- `rows::put` meets its contract.
-use Rattle.rows.proofs.Rows.{added}
+use Rattle.rows.proofs.OneBit.{added}
 use borrow.Author.Needs.{needs}
 use Rattle.rows.proofs.put.Statement.{statement}
 use Rattle.rows.proofs.put.Tie as tie

@@ -1,6 +1,6 @@
 -- `rows::take_out` meets its contract.
 use borrow.Author.Needs.{needs}
-use Rattle.rows.proofs.Rows.{removed}
+use Rattle.rows.proofs.OneBit.{removed}
 use Rattle.rows.proofs.take_out.Statement.{statement}
 use Rattle.rows.proofs.take_out.Tie as tie
 

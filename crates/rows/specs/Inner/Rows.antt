@@ -3,7 +3,7 @@ use mathlib.Core.Path.{_≡_}
 use mathlib.Core.Bool.{Bool, true, false}
 use mathlib.Core.List.{List}
 use Prim.Native.Nat.{ℕ, _+_, _*_, _/_, _%_, _^_, _<_}
-use lib.ListN.{getD}
+use lib.ListN.{getD, set}
 
 -- what an answer of yes or no says of a statement
 abbrev pub Tells : Bool → Type 0 → Type 0
@@ -18,6 +18,21 @@ Vouches false A = Unit {0}
 -- bit i of a word
 unfoldable pub bit : ℕ → ℕ → ℕ
 bit x i = x / 2 ^ i % 2
+
+-- bit i is set
+abbrev pub IsSet : ℕ → ℕ → Type 0
+IsSet x i = bit x i ≡ 1
+
+-- the two words of row a
+abbrev pub lowWord : List ℕ → ℕ → ℕ
+lowWord w a = getD w (2 * a) 0
+
+abbrev pub highWord : List ℕ → ℕ → ℕ
+highWord w a = getD w (2 * a + 1) 0
+
+-- the rows with lo and hi as the words of row a
+abbrev pub withWords : List ℕ → ℕ → ℕ → ℕ → List ℕ
+withWords w a lo hi = set (set w (2 * a) lo) (2 * a + 1) hi
 
 -- the bit of row a at b; it means nothing for b from 128 on
 unfoldable pub at : List ℕ → ℕ → ℕ → ℕ

@@ -3,7 +3,7 @@ use mathlib.Core.Path.{_≡_}
 use mathlib.Core.Logic.{_⊎_}
 use mathlib.Core.List.{List}
 use Prim.Native.Nat.{ℕ, _≤_, _<_, min, max}
-use Rattle.rows.specs.Inner.Rows.{bit, at, Has}
+use Rattle.rows.specs.Inner.Rows.{at, Has}
 
 -- b is put into row a
 pub record Added (w v : List ℕ) (a b : ℕ) : Type 0 where
@@ -39,26 +39,6 @@ pub record Emptied (w v : List ℕ) (a : ℕ) : Type 0 where
 pub record Copied (m : List ℕ) (a : ℕ) (s : List ℕ) : Type 0 where
   pub same : (y : ℕ) → y < 128 → at s 0 y ≡ at m a y
 
--- r is the least bit of x from b on, or 64 where there is none
-pub record Lowest (x b r : ℕ) : Type 0 where
-  pub low : r ≤ 64
-  pub from : b ≤ r
-  pub here : r < 64 → bit x r ≡ 1
-  pub none : (z : ℕ) → b ≤ z → z < r → bit x z ≡ 1 → ⊥
-
--- r is the least node of row a from b on and below n, or n where it has none
-pub record Next (w : List ℕ) (a b n r : ℕ) : Type 0 where
-  pub low : r ≤ n
-  pub from : b ≤ r
-  pub here : r < n → Has w a r
-  pub none : (z : ℕ) → b ≤ z → z < r → Has w a z → ⊥
-
--- r is the least node of row a below n, or n where it has none
-pub record Least (w : List ℕ) (a n r : ℕ) : Type 0 where
-  pub low : r ≤ n
-  pub here : r < n → Has w a r
-  pub none : (z : ℕ) → z < r → Has w a z → ⊥
-
 -- row a has all that row k has
 abbrev pub Covers : List ℕ → ℕ → ℕ → Type 0
 Covers w a k = (y : ℕ) → y < 128 → Has w k y → Has w a y
@@ -76,9 +56,3 @@ pub record Earlier (w : List ℕ) (x y : ℕ) : Type 0 where
 pub record Common (u w v : List ℕ) : Type 0 where
   pub gives : (a b : ℕ) → b < 128 → Has v a b → Has w a b × Has u a b
   pub keeps : (a b : ℕ) → b < 128 → Has w a b → Has u a b → Has v a b
-
--- what either has
-pub record United (u w v : List ℕ) : Type 0 where
-  pub gives : (a b : ℕ) → b < 128 → Has v a b → Has w a b ⊎ Has u a b
-  pub keeps : (a b : ℕ) → b < 128 → Has w a b → Has v a b
-  pub brings : (a b : ℕ) → b < 128 → Has u a b → Has v a b

@@ -9,7 +9,7 @@ use Rattle.listing.specs.Bytes.{countN, nodesOf}
 use Rattle.order.specs.Walks.{kindAt}
 use Rattle.rows.specs.Inner.Rows.{Members}
 use Rattle.suspects.specs.Inner.Picked.{picked}
-use Rattle.suspects.proofs.Tests.{yes-holds, no-fails}
+use Rattle.listing.proofs.Bools.{yes-holds, no-fails}
 use Rattle.rows.proofs.Growing.{members-none, members-put, members-skip}
 use Rattle.suspects.proofs.gather.Statement.{statement}
 use Rattle.suspects.proofs.gather.Tie as tie
@@ -56,7 +56,12 @@ loop-again c =
     (c .if1 .came)
 
 returns : tie.Need-returns Inv-loop μ-loop
-returns c = let e : c .before .loop .i ≡ countN (c .before .before .before .before .before .before .args .bytes .now) = omega arith in rw e at (c .before .loop .inv .3)
+returns c =
+    let at = c .before in
+    let cleared = at .before .before in
+    let start = cleared .before .before .before in
+    let e : at .loop .i ≡ countN (start .args .bytes .now) = omega arith in
+    rw e at (at .loop .inv .3)
 
 pub gather-spec : {M : Type 1} → statement M
 gather-spec =

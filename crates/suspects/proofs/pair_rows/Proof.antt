@@ -1,9 +1,8 @@
 -- `suspects::pair_rows` meets its contract.
 use borrow.Author.Needs.{needs}
-use mathlib.Core.Path.{sym}
-use Rattle.listing.specs.Bytes.{countN, nodesOf}
-use Rattle.listing.proofs.Nodes.{nodes-length}
-use Rattle.suspects.proofs.Relations.{low-at, pairs-hold}
+use native.Mathlib.Omega.{arith}
+use Rattle.suspects.proofs.Counted.{counted, low-at}
+use Rattle.suspects.proofs.Pairs.{pairs-hold}
 use Rattle.suspects.proofs.pair_rows.Statement.{statement}
 use Rattle.suspects.proofs.pair_rows.Tie as tie
 
@@ -20,16 +19,19 @@ node-count-requires : tie.Need-node-count-requires
 node-count-requires c κs = search needs
 
 restrict-requires : tie.Need-restrict-requires
-restrict-requires c κs = let n = c .before .before in (n .node-count .ensures .1, low-at _ (n .node-count .ensures .0) (n .before .walks .ensures))
+restrict-requires c κs =
+    let count = c .before .before in
+    (omega arith, low-at (count .node-count .ensures .0) (count .before .walks .ensures))
 
 returns : tie.Need-returns
 returns c =
-    let n = c .before .before .before in
-    let w = n .before in
-    let g = w .before .before .before in
-    let k = g .before .before .before .before .before in
-    let bytes = k .args .bytes .now in
-    pairs-hold (nodesOf bytes) (countN bytes) (sym (nodes-length bytes)) (k .pre .few) _ (g .before .before .gather .ensures) _ _ _ (w .walks .ensures) (g .gather2 .ensures) (rw (n .node-count .ensures .0) at (c .restrict .ensures))
+    let count = c .before .before .before in
+    let walked = count .before in
+    let accesses = walked .before .before .before in
+    let every = accesses .before .before in
+    let start = every .before .before .before in
+    pairs-hold (counted (start .pre)) (every .gather .ensures) (walked .walks .ensures) (accesses .gather2 .ensures)
+    (rw (count .node-count .ensures .0) at (c .restrict .ensures))
 
 pub pair-rows-spec : {M : Type 1} → statement M
 pair-rows-spec =

@@ -17,8 +17,8 @@ is-access-requires c κs = search needs
 enum-told-3 : tie.Need-enum-told-3
 enum-told-3 c = search needs
 
-enum-told-4 : tie.Need-enum-told-4
-enum-told-4 c = search needs
+enum-known-pick : tie.Need-enum-known-pick
+enum-known-pick c = search needs
 
 bars-requires : tie.Need-bars-requires
 bars-requires c κs = search needs
@@ -33,7 +33,7 @@ returns-3 : tie.Need-returns-3
 returns-3 c = rw (c .enum-told3 .given .1)
 
 returns-4 : tie.Need-returns-4
-returns-4 c = rw (c .before .enum-told4 .given .1) (ap not (c .bars .ensures))
+returns-4 c = rw (c .before .before .pick .given .1) (ap not (c .bars .ensures))
 
 pub picks-spec : {M : Type 1} → statement M
 picks-spec =
@@ -43,7 +43,7 @@ picks-spec =
     enum-told-2
     is-access-requires
     enum-told-3
-    enum-told-4
+    enum-known-pick
     bars-requires
     returns
     returns-2

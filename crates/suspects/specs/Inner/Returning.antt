@@ -1,9 +1,8 @@
 -- The rows of who returns, one first node at a time: what each part of the work leaves.
-use mathlib.Core.Path.{_≡_}
 use mathlib.Core.Logic.{_≢_, _⊎_}
 use mathlib.Core.List.{List}
 use Prim.Native.Nat.{ℕ, _<_}
-use Rattle.rows.specs.Inner.Rows.{at, Has}
+use Rattle.rows.specs.Inner.Rows.{Has}
 
 -- s has the ends of the pairs from a that meet a or come round to it
 pub record HomeEnds (p m w : List ℕ) (a : ℕ) (s : List ℕ) : Type 0 where

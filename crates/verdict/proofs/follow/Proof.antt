@@ -1,40 +1,47 @@
 -- `verdict::follow` meets its contract.
-use native.Mathlib.Omega.{arith}
-use mathlib.Core.Path.{_≡_, sym, ap, _∙_}
-use Prim.Native.Nat.{_≤_, _<_}
-use lib.ListN.{length}
-use Rattle.verdict.proofs.Showing.{first-below, second-below, asked, followed}
 use borrow.Author.Needs.{needs}
+use native.Mathlib.Omega.{arith}
+use Rattle.verdict.proofs.Following.{first-low, second-low, asked, followed}
 use Rattle.verdict.proofs.follow.Statement.{statement}
 use Rattle.verdict.proofs.follow.Tie as tie
+
+abbrev start : tie.After-node-count → tie.Start
+start c = c .before .before .before
+
+abbrev counted : tie.After-take-out-arg → tie.After-node-count
+counted c = c .before .before .before
+
+abbrev taken : tie.After-chain-arg2 → tie.After-take-out
+taken c = c .before .before .before .before .before
 
 node-count-requires : tie.Need-node-count-requires
 node-count-requires c κs = search needs
 
 copy-row-requires : tie.Need-copy-row-requires
-copy-row-requires c κs =
-    let k = c .before .before .before .before .pre .0 in
-    omega (arith, first-below _ _ _ _ _ k, k .whole .few)
+copy-row-requires c κs = first-low _ _ _ _ _ (start (c .before) .pre .0)
 
 take-out-requires : tie.Need-take-out-requires
 take-out-requires c κs =
-    let k = c .before .before .before .before .before .before .pre .0 in
-    let la : c .before .before .before .before .before .before .args .a < 128 = omega (arith, first-below _ _ _ _ _ k, k .whole .few) in
-    let lb : c .before .before .before .before .before .before .args .b < 128 = omega (arith, second-below _ _ _ _ _ k, k .whole .few) in
-    search needs
+    let chained = start (counted c) .pre .0 in
+    (omega (arith, first-low _ _ _ _ _ chained), second-low _ _ _ _ _ chained)
 
 chain-requires : tie.Need-chain-requires
 chain-requires c κs =
-    let pre = c .before .before .before .before .before .before .before .before .before .before .before .before .pre in
-    rw (c .before .before .before .before .before .before .before .before .before .node-count .ensures .0) (asked _ _ _ _ _ (pre .0) _ (c .before .before .before .before .before .take-out .ensures) _ (pre .1))
+    let t = taken c in
+    let n = counted (t .before) in
+    let pre = start n .pre in
+    rw (n .node-count .ensures .0) (asked _ _ _ _ _ (pre .0) _ (t .take-out .ensures) _ (pre .1))
 
 same-length : tie.Need-same-length
 same-length c = search needs
 
 returns : tie.Need-returns
 returns c =
-    let pre = c .before .before .before .before .before .before .before .before .before .before .before .before .before .before .before .pre in
-    followed _ _ _ _ _ (pre .0) _ (c .before .before .before .before .before .before .before .before .take-out .ensures) _ (c .before .before .before .before .before .before .before .before .before .before .copy-row .ensures) _ _ _ (rw (c .before .before .before .before .before .before .before .before .before .before .before .before .node-count .ensures .0) at (c .before .before .chain .ensures))
+    let shown = c .before .before in
+    let t = taken (shown .before) in
+    let n = counted (t .before) in
+    let copied = t .before .before .copy-row .ensures in
+    followed _ _ _ _ _ (start n .pre .0) _ (t .take-out .ensures) _ copied _ _ _ (rw (n .node-count .ensures .0) at (shown .chain .ensures))
 
 pub follow-spec : {M : Type 1} → statement M
 follow-spec =

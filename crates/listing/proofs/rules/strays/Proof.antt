@@ -18,7 +18,8 @@ outside : (s : List ℕ) (i x : ℕ) → (x ≡ none → ⊥) → countN s ≤ x
 unfolding astray
 outside s i x p q = simp (ne-eqb _ _ p, le-ltb _ _ q)
 
-inside : (s : List ℕ) (i x a b : ℕ) → i < countN s → (x ≡ none → ⊥) → x < countN s → a ≡ node (nodesOf s) x .routine → b ≡ node (nodesOf s) i .routine → not (eqb a b) ≡ astray s i x
+inside : (s : List ℕ) (i x a b : ℕ) → i < countN s → (x ≡ none → ⊥) → x < countN s
+    → a ≡ node (nodesOf s) x .routine → b ≡ node (nodesOf s) i .routine → not (eqb a b) ≡ astray s i x
 unfolding astray
 inside s i x a b h p q ea eb = simp (ea, eb, nodes-at s x q, nodes-at s i h, ne-eqb _ _ p, lt-ltb _ _ q)
 

@@ -1,0 +1,48 @@
+-- What the rows of the failing-pair test keep, relation by relation.
+use mathlib.Core.Path.{_≡_}
+use mathlib.Core.List.{List}
+use Prim.Native.Nat.{ℕ, _≤_, _<_}
+use lib.Dec.{T}
+use Rattle.listing.specs.Node.{Listing}
+use Rattle.listing.specs.Bytes.{countN, nodesOf}
+use Rattle.order.specs.Rows.{All}
+use Rattle.order.specs.Walks.{kindAt, locAt, Access, Walk, Pair}
+use Rattle.order.specs.Chains.{MayMeet, Ends, Chain}
+use Rattle.order.specs.Need.{RmwInside, question, classAt, bars}
+use Rattle.rows.specs.Inner.Rows.{Holds}
+
+-- two accesses that may meet
+abbrev pub Meeting : Listing → ℕ → ℕ → Type 0
+Meeting L a b = Access L a × Access L b × MayMeet L a b
+
+-- r is an earlier access with a's location, or a
+pub record Twin (L : Listing) (a r : ℕ) : Type 0 where
+  pub low : r ≤ a
+  pub access : r < a → Access L r
+  pub same : r < a → locAt L r ≡ locAt L a
+
+-- some walk from a to b has nothing inside that bars ends of class e
+abbrev pub ClearOf : ℕ → ℕ → Listing → ℕ → ℕ → Type 0
+ClearOf q e L a b = (inside : List ℕ) × Walk L a inside b × All (λ c. T (bars (question q) e (kindAt L c)) → ⊥) inside
+
+-- "some walk between them has no barrier inside"
+abbrev pub Clear : ℕ → Listing → ℕ → ℕ → Type 0
+Clear q L a b = ClearOf q (classAt L a b) L a b
+
+-- two accesses, "some walk between them has an RMW inside"
+abbrev pub Exchanged : Listing → ℕ → ℕ → Type 0
+Exchanged L a b = Access L a × Access L b × RmwInside L a b
+
+-- "it lies on a chain"
+abbrev pub OnChain : Listing → ℕ → ℕ → Type 0
+OnChain L a b = (rest : List Ends) × Chain L (a, b) rest
+
+-- all of a failing pair but its need and its ends: on a chain, and with a walk that no barrier bars
+abbrev pub Suspect : ℕ → Listing → ℕ → ℕ → Type 0
+Suspect q L a b = OnChain L a b × Clear q L a b
+
+-- the rows that the failing-pair test and the chain to show start from
+pub record Ready (q : ℕ) (bytes p m c : List ℕ) : Type 0 where
+  pub pairs : Holds p (countN bytes) (Pair (nodesOf bytes))
+  pub meetings : Holds m (countN bytes) (Meeting (nodesOf bytes))
+  pub suspects : Holds c (countN bytes) (Suspect q (nodesOf bytes))
