@@ -1,5 +1,6 @@
 // Answers as lines of text on standard output, the same for every program.
 mod nodes;
+mod words;
 
 use libc::STDIN_FILENO;
 use libc::STDOUT_FILENO;
@@ -8,6 +9,7 @@ pub use nodes::shown;
 use patch::ProposeAnswer;
 use verdict::CHAIN_BYTES;
 use verdict::JudgeAnswer;
+pub use words::explained;
 
 // The longest listing, and one byte more: an input cut there is still longer than any listing, and so refused by 7 at the latest.
 pub const INPUT: usize = Listing::LONGEST + 1;
@@ -35,7 +37,7 @@ pub fn next(n: usize) {
     number(n);
 }
 
-fn refusal(number: u8, place: usize) {
+pub fn refusal(number: u8, place: usize) {
     text(b"REFUSED");
     next(number as usize);
     next(place);
@@ -43,55 +45,6 @@ fn refusal(number: u8, place: usize) {
 
 pub fn refused(number: u8, place: usize) {
     refusal(number, place);
-    text(b"\n");
-}
-
-// The refusal table's words.
-pub fn reason(number: u8) {
-    match number {
-        1 => text(b"question not 1 to 4"),
-        2 => text(b"fewer than 7 bytes"),
-        3 => text(b"mark wrong"),
-        4 => text(b"version not 1"),
-        5 => text(b"F is 0 or over 16"),
-        6 => text(b"N over 128"),
-        7 => text(b"length not 7 + 6N"),
-        8 => text(b"node's routine not below F"),
-        9 => text(b"kind over 4"),
-        10 => text(b"kind 0 or 4 with a location other than 0"),
-        11 => text(b"successor neither 255 nor below N, or in another routine"),
-        12 => text(b"second successor without a first, or not larger than it"),
-        13 => text(b"map length not N"),
-        14 => text(b"map byte not 0 or 1"),
-        15 => text(b"N + places over 128"),
-        _ => text(b"lent output buffer too short"),
-    }
-}
-
-// What a refusal's place is of, where it has one.
-fn place_of(number: u8, place: usize) {
-    if number == 14 {
-        text(b" (index");
-        next(place);
-        text(b")");
-        return;
-    }
-    if number < 8 {
-        return;
-    }
-    if number < 13 {
-        text(b" (node");
-        next(place);
-        text(b")");
-    }
-}
-
-// The refusal line for a person: what the number means, too.
-pub fn explained(number: u8, place: usize) {
-    refusal(number, place);
-    text(b": ");
-    reason(number);
-    place_of(number, place);
     text(b"\n");
 }
 
