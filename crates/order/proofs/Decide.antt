@@ -181,10 +181,12 @@ chain? L p = hits₁ (pairs L) (other? p) (joined? L) (length (pairs L)) p p
 chain-sound : (L : Listing) (p : Ends) → IsPair L p → T (chain? L p) → (rest : List Ends) × Chain L p rest
 chain-sound L p h t =
     let f = hits₁-sound (pairs L) (other? p) (joined? L) (length (pairs L)) p p t in
+    let c =
     shorten L p (f .0 ∷ f .1)
     (h, in-all (IsPair L) (f .0 ∷ f .1) (λ x i. listed-pair L x (all-in (Good (pairs L) (other? p) (joined? L)) (f .0 ∷ f .1) (f .3) x i .0)))
     (f .2)
-    (λ e. T-not (same? p (f .0)) (f .3 .0 .1) (subst (λ (v : Ends). T (same? p v)) (sym (e .0)) (same-refl p)))
+    (λ e. T-not (same? p (f .0)) (f .3 .0 .1) (subst (λ (v : Ends). T (same? p v)) (sym (e .0)) (same-refl p))) in
+    (c .0, c .1)
 
 chain-complete : (L : Listing) (p : Ends) (rest : List Ends) → Chain L p rest → T (chain? L p)
 chain-complete L p [] c = absurd (c .enough)

@@ -45,8 +45,8 @@ barred? q L a b (x ∷ xs) = go (T? (bars (question q) (classAt L a b) (kindAt L
 -- the pair of a step of a closed chain of steps lies on a chain
 pub on-chain : (L : Listing) (s : Step L) (ss : List (Step L)) → Ring L s ss → (t : Step L) → In t (s ∷ ss) → (rest : List Ends) × Chain L (ends t) rest
 on-chain L s ss g t i =
-    shorten L (ends t) (map ends (u .rest)) (step-pair L t, steps-pairs L (u .rest))
-    (ends-row L t (u .rest) t (u .row)) (λ h. g .several (same h))
+    let c = shorten L (ends t) (map ends (u .rest)) (step-pair L t, steps-pairs L (u .rest)) (ends-row L t (u .rest) t (u .row)) (λ h. g .several (same h)) in
+    (c .0, c .1)
   where
     u : Turned (Hop L) s ss t
     u = turn (Hop L) s ss t (g .closed) i

@@ -106,8 +106,10 @@ shown-best L p rest s = record {
 pub through : (L : Listing) (p x : Ends) (us vs : List Ends) → (p ≡ x → ⊥) → IsPair L p → All (IsPair L) us → IsPair L x → All (IsPair L) vs
     → Row (Joined L) p us x → Row (Joined L) x vs p → (rest : List Ends) × Chain L p rest
 through L p x us vs n hp hu hx hv h k =
+    let c =
     shorten L p (us ++ (x ∷ vs)) (hp, in-all (IsPair L) (us ++ (x ∷ vs)) (λ y i. part y (in-either us (x ∷ vs) y i)))
-    (row-join (Joined L) p us x vs p h k) (λ e. n (sym (all-in (λ y. y ≡ p) (us ++ (x ∷ vs)) e x (in-right us (x ∷ vs) x (inl refl)))))
+    (row-join (Joined L) p us x vs p h k) (λ e. n (sym (all-in (λ y. y ≡ p) (us ++ (x ∷ vs)) e x (in-right us (x ∷ vs) x (inl refl))))) in
+    (c .0, c .1)
   where
     part : (y : Ends) → In y us ⊎ In y (x ∷ vs) → IsPair L y
     part y (inl i) = all-in (IsPair L) us hu y i

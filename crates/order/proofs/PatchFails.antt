@@ -9,23 +9,20 @@ use lib.ListN.{length}
 use Rattle.listing.specs.Node.{Listing}
 use Rattle.order.specs.Verdict.{Fails, Robust}
 use Rattle.order.specs.Patched.{Marks, marked, patched}
+use Rattle.order.specs.With.{Unmarked, FailsWith}
 use Rattle.listing.proofs.Bools.{bool?}
 use Rattle.order.proofs.Lists.{all-in, in-all}
-use Rattle.order.proofs.RenamingFails.{FailsOpen, fails-kept}
+use Rattle.order.proofs.RenamingFails.{fails-kept}
 use Rattle.order.proofs.Patch.{Links}
-use Rattle.order.proofs.PatchWalk.{Unmarked, patched-renamed}
-
--- the pair fails in the listing with the marked fences, in the old numbers
-abbrev pub FailsWith : ℕ → Listing → Marks → ℕ → ℕ → Type 0
-FailsWith q L ms a b = FailsOpen q (Unmarked ms) L a b
+use Rattle.order.proofs.PatchWalk.{patched-renamed}
 
 module _ (L : Listing) (ms : Marks) (links : Links L) (small : length (patched L ms) ≤ 255) where
   -- the same pairs fail with the map and in the patched listing
   pub patched-fails : (q a b : ℕ) → Fails q (patched L ms) a b → FailsWith q L ms a b
-  patched-fails q a b = fails-kept (patched-renamed L ms links small) q a b .1
+  patched-fails q a b f = let g = fails-kept (patched-renamed L ms links small) q a b .1 f in record { fails = g .fails; walk-open = g .walk-open }
 
   pub fails-patched : (q a b : ℕ) → FailsWith q L ms a b → Fails q (patched L ms) a b
-  fails-patched q a b = fails-kept (patched-renamed L ms links small) q a b .0
+  fails-patched q a b f = fails-kept (patched-renamed L ms links small) q a b .0 record { fails = f .fails; walk-open = f .walk-open }
 
   -- a map that marks the first node of every failing pair is accepted
   pub accepted : (q : ℕ) → ((a b : ℕ) → Fails q L a b → marked ms a ≡ true) → Robust q (patched L ms)

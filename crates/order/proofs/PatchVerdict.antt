@@ -5,21 +5,13 @@ use Prim.Native.Nat.{ℕ, _≤_}
 use lib.ListN.{length}
 use Rattle.listing.specs.Node.{Listing}
 use Rattle.order.specs.Chains.{Ends, Chain}
-use Rattle.order.specs.Verdict.{Before, Shown, Verdict, robust, opened, Judged}
+use Rattle.order.specs.Verdict.{Verdict, robust, opened, Judged}
 use Rattle.order.specs.Patched.{Marks, patched}
+use Rattle.order.specs.With.{JudgedWith}
 use Rattle.order.proofs.Patch.{Links}
 use Rattle.order.proofs.Renaming.{chain-kept}
 use Rattle.order.proofs.PatchWalk.{patched-renamed}
-use Rattle.order.proofs.PatchFails.{FailsWith, patched-fails, fails-patched}
-
--- the failing pair to show with the marked fences, in the old numbers
-pub record FirstWith (q : ℕ) (L : Listing) (ms : Marks) (p : Ends) : Type 0 where
-  pub fails : FailsWith q L ms (p .0) (p .1)
-  pub first : (a b : ℕ) → FailsWith q L ms a b → Before (a, b) p → ⊥
-
-abbrev pub JudgedWith : ℕ → Listing → Marks → Verdict → Type 0
-JudgedWith q L ms robust = (a b : ℕ) → FailsWith q L ms a b → ⊥
-JudgedWith q L ms (opened p rest) = FirstWith q L ms p × Shown L p rest
+use Rattle.order.proofs.PatchFails.{patched-fails, fails-patched}
 
 module _ (q : ℕ) (L : Listing) (ms : Marks) (links : Links L) (small : length (patched L ms) ≤ 255) where
   chain-same : (p : Ends) (rest : List Ends) → Chain L p rest ↔ Chain (patched L ms) p rest

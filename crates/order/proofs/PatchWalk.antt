@@ -9,19 +9,15 @@ use native.Mathlib.Omega.{arith}
 use lib.Dec.{T}
 use lib.ListN.{length}
 use Rattle.listing.specs.Node.{Listing}
-use Rattle.order.specs.Rows.{All}
 use Rattle.order.specs.Walks.{kindAt, isAccess, Access, Succ, Walk}
 use Rattle.order.specs.Patched.{Marks, marked, patched}
+use Rattle.order.specs.With.{Unmarked}
 use Rattle.listing.proofs.Bools.{bool?}
 use Rattle.order.proofs.Laws.{access-in}
 use Rattle.order.proofs.Inside.{Inside, inside-none, inside-kept, inside-fence, inside-open}
 use Rattle.order.proofs.Renaming.{Renamed}
 use Rattle.order.proofs.Patch.{Links, fenceOf, patched-kind, patched-loc, patched-new, fence-kind}
 use Rattle.order.proofs.Patch.{unmarked-succ, marked-succ, fence-succ, succ-unmarked, succ-marked, succ-fence}
-
--- a walk from a with xs inside passes no mark
-abbrev pub Unmarked : Marks → ℕ → List ℕ → Type 0
-Unmarked ms a xs = All (λ y. marked ms y ≡ false) (a ∷ xs)
 
 module _ (L : Listing) (ms : Marks) where
   -- a walk of the patched listing with ys inside goes along an old walk with xs inside

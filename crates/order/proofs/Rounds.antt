@@ -22,9 +22,14 @@ pub record Round (L : Listing) (p : Ends) (rest : List Ends) : Type 0 where
 pub chain-round : (L : Listing) (p : Ends) (rest : List Ends) → Chain L p rest → Round L p rest
 chain-round L p rest c = record { pairs = c .pairs; fresh = c .different .0; enough = c .enough; closed = c .closed }
 
+-- every pair of xs is one of ys
+abbrev pub Among : List Ends → List Ends → Type 0
+Among xs ys = (x : Ends) → In x xs → In x ys
+
 -- a round has a chain in it that is no longer
-pub round-chain : (L : Listing) (p : Ends) (rest : List Ends) → Round L p rest → (c : List Ends) × Chain L p c × (length c ≤ length rest)
-round-chain L p [] h = ([], record { pairs = h .pairs; different = (h .fresh, tt); enough = h .enough; closed = h .closed }, omega arith)
+pub round-chain : (L : Listing) (p : Ends) (rest : List Ends) → Round L p rest
+    → (c : List Ends) × Chain L p c × (length c ≤ length rest) × Among c rest
+round-chain L p [] h = ([], record { pairs = h .pairs; different = (h .fresh, tt); enough = h .enough; closed = h .closed }, omega arith, λ x i. i)
 round-chain L p (y ∷ ys) h =
     let s = simple ends-eq (Joined L) y ys p (h .closed .1) in (
       y ∷ s .inside,
@@ -35,11 +40,12 @@ round-chain L p (y ∷ ys) h =
         closed = (h .closed .0, s .row);
       },
       omega (arith, s .short),
+      λ x. elim [ inl e ↦ inl e | inr i ↦ inr (s .among x i) ],
     )
 
 -- a closed row of pairs that has a pair other than p has a round in it
 pub round : (L : Listing) (p : Ends) (xs : List Ends) → All (IsPair L) (p ∷ xs) → Row (Joined L) p xs p → (All (λ x. x ≡ p) xs → ⊥)
-    → (rest : List Ends) × Round L p rest
+    → (rest : List Ends) × Round L p rest × Among rest xs
 round L p xs g h n =
     let l = loop ends-eq (Joined L) p xs h n in (
       l .rest,
@@ -49,12 +55,13 @@ round L p xs g h n =
         enough = enough-some (l .rest) (l .some);
         closed = l .row;
       },
+      l .among,
     )
 
 -- SHORTENING: A CLOSED ROW OF PAIRS THAT HAS A PAIR OTHER THAN ITS FIRST HAS A CHAIN THROUGH THAT FIRST PAIR IN IT
 pub shorten : (L : Listing) (p : Ends) (xs : List Ends) → All (IsPair L) (p ∷ xs) → Row (Joined L) p xs p → (All (λ x. x ≡ p) xs → ⊥)
-    → (rest : List Ends) × Chain L p rest
+    → (rest : List Ends) × Chain L p rest × Among rest xs
 shorten L p xs g h n =
     let k = round L p xs g h n in
     let c = round-chain L p (k .0) (k .1) in
-    (c .0, c .1)
+    (c .0, c .1, λ x i. k .2 x (c .3 x i))

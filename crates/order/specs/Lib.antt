@@ -5,6 +5,7 @@ pub mod Need
 pub mod Verdict
 pub mod Steps
 pub mod Patched
+pub mod With
 pub mod Proposed
 pub mod Cases
 pub mod Inner

@@ -39,7 +39,8 @@ admitted c = read-good _ _ _ (c .before .before .read .ensures) (c .enum-told .g
 returns-2 : tie.Need-returns-2
 returns-2 c =
     let t = c .before in
-    judge-refused _ _ _ 16 0 (judge-16 _ _ _ (asked (t .before .before .before)) (admitted t) (c .if2 .taken))
+    let s = t .before .before .before in
+    judge-refused _ _ _ 16 0 (judge-16 _ _ (now (start s .args .chain)) (asked s) (admitted t) (c .if2 .taken))
 
 cast-decide : tie.Need-cast-decide
 cast-decide c =
