@@ -9,7 +9,7 @@ use native.Mathlib.Decide.{ℕ-discrete}
 use lib.Dec.{T}
 use lib.ListN.{length, length-append}
 use Rattle.order.specs.Rows.{All, In, Different, Row}
-use Rattle.listing.proofs.Bools.{both, both→, one, one→}
+use Rattle.listing.proofs.Bools.{both, one, one→}
 
 module _ {A : Type 0} where
   pub all-in : (p : A → Type 0) (xs : List A) → All p xs → (x : A) → In x xs → p x
@@ -125,11 +125,6 @@ module _ {A : Type 0} where
   in-some p [] x i t = i
   in-some p (y ∷ ys) x (inl e) t = one (p y) (some p ys) (inl (subst (λ (v : A). T (p v)) e t))
   in-some p (y ∷ ys) x (inr i) t = one (p y) (some p ys) (inr (in-some p ys x i t))
-
-  pub every-in : (p : A → Bool) (xs : List A) → T (every p xs) → (x : A) → In x xs → T (p x)
-  every-in p [] t x i = absurd i
-  every-in p (y ∷ ys) t x (inl e) = subst (λ (v : A). T (p v)) (sym e) (both→ (p y) (every p ys) t .0)
-  every-in p (y ∷ ys) t x (inr i) = every-in p ys (both→ (p y) (every p ys) t .1) x i
 
   -- different entries of a list are no more than its entries
   pub pigeons : (xs us : List A) → Different xs → ((x : A) → In x xs → In x us) → length xs ≤ length us

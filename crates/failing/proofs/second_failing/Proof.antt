@@ -33,7 +33,7 @@ loop-holds c =
     let n = c .before .before in
     let pre = start n .pre in
     let e = n .node-count .ensures .0 in
-    (e, n .node-count .ensures .1, searched-first (in-row (pre .0) _ _ e (pre .1)) (c .next .ensures))
+    (e, n .node-count .ensures .1, searched-first {b = start n .args .b} (in-row (pre .0) _ _ e (pre .1)) {r = c .next .result} (c .next .ensures))
 
 fails-at-requires : tie.Need-fails-at-requires Inv-loop μ-loop
 fails-at-requires c κs = let pre = start (count (c .before)) .pre in (pre .0, pre .1, omega arith)

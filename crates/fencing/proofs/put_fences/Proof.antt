@@ -34,7 +34,9 @@ loop-holds c =
     (e, omega arith, refl, refl, ap (λ (k : ℕ). sets (now (a .out)) (recordAt k) (nodesBytes (fences (nodesOf (now (a .s))) (marksOf (now (a .map)))))) e)
 
 put-fence-requires : tie.Need-put-fence-requires Inv-loop μ-loop
-put-fence-requires c κs = search needs
+put-fence-requires c κs =
+    let fits = c .before .before .before .before .before .before .before .pre .0 in
+    (fits, omega arith, omega (arith, fits .few), omega arith)
 
 add-i : tie.Need-add-i Inv-loop μ-loop
 add-i c = search needs

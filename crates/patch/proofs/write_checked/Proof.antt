@@ -31,7 +31,7 @@ returns c =
     too-short (now (a .bytes)) (now (a .map)) (now (a .out)) _ (omega arith) refl
 
 put-patched-requires : tie.Need-put-patched-requires
-put-patched-requires c κs = search needs
+put-patched-requires c κs = (start (c .before .before) .pre, omega arith)
 
 same-length : tie.Need-same-length
 same-length c = search needs

@@ -5,6 +5,7 @@ use mathlib.Core.Path.{_≡_, sym, ap, _∙_}
 use Prim.Native.Nat.{ℕ}
 use lib.ListN.{drop}
 use denote.Ref.{now}
+use Rattle.listing.specs.Limits.{ROUTINES, NODES}
 use Rattle.listing.specs.Kinds.{isVersion}
 use Rattle.listing.specs.Bytes.{versionOf}
 use Rattle.listing.specs.Rules.{firstOf}
@@ -84,7 +85,7 @@ returns-5 : tie.Need-returns-5
 unfolding headingRules wrongF
 returns-5 c =
     let f = c .before .before in
-    past-version (f .before .before) ∙ simp (sym (f .wide .ensures .0), ne-eqb _ _ (c .before .if4 .left), lt-ltb _ _ (c .if5 .taken))
+    past-version (f .before .before) ∙ simp (sym (f .wide .ensures .0), ne-eqb _ _ (c .before .if4 .left), lt-ltb ROUTINES _ (c .if5 .taken))
 
 past-routines : (c : tie.Else5) → Past (start₄ c) 4
 unfolding headingRules wrongF
@@ -100,7 +101,7 @@ wide-requires-2 c κs = search needs
 
 returns-6 : tie.Need-returns-6
 unfolding headingRules
-returns-6 c = past-routines (c .before .before .before) ∙ simp (sym (c .before .wide2 .ensures .0), lt-ltb _ _ (c .if6 .taken))
+returns-6 c = past-routines (c .before .before .before) ∙ simp (sym (c .before .wide2 .ensures .0), lt-ltb NODES _ (c .if6 .taken))
 
 past-nodes : (c : tie.Else6) → Past (start₅ c) 5
 unfolding headingRules

@@ -1,6 +1,6 @@
 -- `listing::rules::wrong_order` meets its contract.
 use borrow.Author.Tests.{eq-eqb, ne-eqb}
-use mathlib.Core.Path.{_≡_, sym, ap, _∙_}
+use mathlib.Core.Path.{_≡_, sym, ap, _∙_, refl}
 use denote.Ref.{now}
 use Rattle.listing.specs.Node.{Node}
 use Rattle.listing.specs.Bytes.{nodeAt}
@@ -45,7 +45,7 @@ returns-3 : tie.Need-returns-3
 unfolding wrongOrder
 returns-3 c =
     let e = c .before in
-    simp (first-read (e .before), second-read (e .before), ne-eqb _ _ (e .if1 .left), ne-eqb _ _ (c .if2 .left))
+    simp (first-read (e .before), second-read (e .before), ne-eqb _ _ (e .if1 .left), ne-eqb _ _ (c .if2 .left)) refl
 
 pub wrong-order-spec : {M : Type 1} → statement M
 wrong-order-spec =
