@@ -19,7 +19,7 @@ pub enum Answer {
 
 impl Answer {
     pub(crate) fn of(answer: raw::Answer) -> Answer {
-        if answer.kind == 0 {
+        if answer.kind == raw::Answer::DONE {
             return Answer::Robust;
         }
         Answer::Open { first: answer.first as usize, second: answer.second as usize, count: answer.count as usize }
@@ -30,8 +30,8 @@ impl raw::Answer {
     /// The answer, unless it is a refusal.
     pub(crate) fn passed(self) -> Result<raw::Answer, Refusal> {
         match self.kind {
-            0 | 1 => Ok(self),
-            2 => Err(Refusal { number: self.first, place: self.second }),
+            Self::DONE | Self::OPEN => Ok(self),
+            Self::REFUSED => Err(Refusal { number: self.first, place: self.second }),
             kind => panic!("the archive answered with kind {kind}, which no service has: build it anew from this repository"),
         }
     }

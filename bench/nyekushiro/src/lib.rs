@@ -31,7 +31,7 @@ mod refusal;
 
 pub use answer::{chain_pairs, Answer, Size};
 pub use question::Question;
-pub use refusal::Refusal;
+pub use refusal::{Refusal, REFUSALS};
 
 /// "The chain buffer must have 258 bytes."
 pub const CHAIN_BUFFER: usize = 258;

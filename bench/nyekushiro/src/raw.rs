@@ -1,6 +1,6 @@
 //! The exported services as they are: numbers and byte slices in, four numbers out.
 
-/// What every service answers. `kind` is 0 for done or ROBUST, 1 for OPEN, 2 for REFUSED.
+/// What every service answers. `kind` is [`Answer::DONE`], [`Answer::OPEN`] or [`Answer::REFUSED`].
 #[repr(C)]
 #[derive(Clone, Copy, Debug, PartialEq, Eq)]
 pub struct Answer {
@@ -8,6 +8,13 @@ pub struct Answer {
     pub first: u64,
     pub second: u64,
     pub count: u64,
+}
+
+impl Answer {
+    /// Done, or ROBUST.
+    pub const DONE: u64 = 0;
+    pub const OPEN: u64 = 1;
+    pub const REFUSED: u64 = 2;
 }
 
 mod archive {

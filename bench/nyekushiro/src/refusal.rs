@@ -36,6 +36,9 @@ const ROWS: [(&str, &str); 16] = [
     ("lent output buffer too short", "lend 258 bytes for a chain, N for a map, 7 + 6(N + places) for a listing"),
 ];
 
+/// How many rows the table of refusals has; their numbers start with 1.
+pub const REFUSALS: usize = ROWS.len();
+
 impl Refusal {
     fn row(&self) -> (&'static str, &'static str) {
         let at = (self.number as usize).wrapping_sub(1);
