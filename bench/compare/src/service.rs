@@ -23,13 +23,22 @@ pub enum Side {
 impl Service {
     pub const ALL: [Service; 5] = [Service::Read, Service::Judge, Service::JudgePatch, Service::Propose, Service::Write];
 
+    pub fn judges(self) -> bool {
+        matches!(self, Service::Judge | Service::JudgePatch)
+    }
+
+    /// Whether it takes or proposes places for fences.
+    pub fn has_places(self) -> bool {
+        !matches!(self, Service::Read | Service::Judge)
+    }
+
     /// Whether the service has the input that this refusal is about.
-    pub fn may_refuse_by(self, number: usize) -> bool {
+    pub fn may_refuse_by(self, number: u64) -> bool {
         match number {
             1 => !matches!(self, Service::Read | Service::Write),
             2..=12 => true,
             13 | 14 => matches!(self, Service::JudgePatch | Service::Write),
-            15 => !matches!(self, Service::Read | Service::Judge),
+            15 => self.has_places(),
             16 => self != Service::Read,
             _ => false,
         }
@@ -70,17 +79,22 @@ impl Service {
             Service::Propose => plain::propose(call.question, &call.listing, lent).map(|places| done(0, 0, places)),
             Service::Write => plain::write(&call.listing, &call.map, lent).map(|length| done(0, 0, length)),
         };
-        answer.unwrap_or_else(|refusal| raw::Answer { kind: 2, first: refusal.number, second: refusal.place, count: 0 })
+        answer.unwrap_or_else(|refusal| raw::Answer {
+            kind: raw::Answer::REFUSED,
+            first: refusal.number,
+            second: refusal.place,
+            count: 0,
+        })
     }
 }
 
 fn done(first: usize, second: usize, count: usize) -> raw::Answer {
-    raw::Answer { kind: 0, first: first as u64, second: second as u64, count: count as u64 }
+    raw::Answer { kind: raw::Answer::DONE, first: first as u64, second: second as u64, count: count as u64 }
 }
 
 fn judged(answer: plain::Answer) -> raw::Answer {
     match answer {
         plain::Answer::Robust => done(0, 0, 0),
-        plain::Answer::Open { first, second, count } => raw::Answer { kind: 1, ..done(first, second, count) },
+        plain::Answer::Open { first, second, count } => raw::Answer { kind: raw::Answer::OPEN, ..done(first, second, count) },
     }
 }

@@ -2,34 +2,53 @@
 
 use std::fmt;
 
-use nyekushiro::{raw, Refusal};
+use nyekushiro::{raw, Refusal, REFUSALS};
 
 use crate::Service;
+
+const SERVICES: usize = Service::ALL.len();
 
 /// By service: what it said where it did not refuse, and then each refusal.
 #[derive(Default)]
 pub struct Tally {
-    done: [usize; 5],
-    open: [usize; 5],
+    done: [usize; SERVICES],
+    open: [usize; SERVICES],
     /// a proposal with a place, a written listing with a fence
-    with_places: [usize; 5],
-    refused: [[usize; 17]; 5],
+    with_places: [usize; SERVICES],
+    refused: [[usize; REFUSALS]; SERVICES],
     longest_chain: u64,
 }
 
+/// What to do about an answer that no service has.
+const BELONG: &str = "build the archive and the bench from the same repository";
+
+/// The numbers of the table of refusals.
+fn numbers() -> impl Iterator<Item = u64> {
+    1..=REFUSALS as u64
+}
+
+/// Where the table has the refusal.
+fn row(number: u64) -> usize {
+    number as usize - 1
+}
+
 impl Tally {
-    /// Counts an answer; `places` is what the call's own map has.
+    /// Counts an answer; `places` is what the call's own map has. Stops at an answer that the service does not have.
     pub fn count(&mut self, service: Service, answer: raw::Answer, places: usize) {
         let at = service as usize;
         match (answer.kind, service) {
-            (0, Service::Propose) if answer.count > 0 => self.with_places[at] += 1,
-            (0, Service::Write | Service::JudgePatch) if places > 0 => self.with_places[at] += 1,
-            (0, _) => self.done[at] += 1,
-            (1, _) => self.open[at] += 1,
-            _ => self.refused[at][answer.first.min(16) as usize] += 1,
-        }
-        if answer.kind == 1 {
-            self.longest_chain = self.longest_chain.max(answer.count);
+            (raw::Answer::DONE, Service::Propose) if answer.count > 0 => self.with_places[at] += 1,
+            (raw::Answer::DONE, Service::Write | Service::JudgePatch) if places > 0 => self.with_places[at] += 1,
+            (raw::Answer::DONE, _) => self.done[at] += 1,
+            (raw::Answer::OPEN, Service::Judge | Service::JudgePatch) => {
+                self.open[at] += 1;
+                self.longest_chain = self.longest_chain.max(answer.count);
+            }
+            (raw::Answer::REFUSED, _) if service.may_refuse_by(answer.first) => self.refused[at][row(answer.first)] += 1,
+            (raw::Answer::REFUSED, _) => {
+                panic!("{service:?} refused by {}, which is none of its refusals; {BELONG}", answer.first)
+            }
+            (kind, _) => panic!("{service:?} answered with kind {kind}, which is none of its kinds; {BELONG}"),
         }
     }
 
@@ -38,12 +57,12 @@ impl Tally {
         let mut missing = Vec::new();
         for service in Service::ALL {
             let at = service as usize;
-            let judges = matches!(service, Service::Judge | Service::JudgePatch);
-            let takes_places = matches!(service, Service::JudgePatch | Service::Propose | Service::Write);
-            if self.done[at] == 0 || (judges && self.open[at] == 0) || (takes_places && self.with_places[at] == 0) {
+            let no_open = service.judges() && self.open[at] == 0;
+            let no_places = service.has_places() && self.with_places[at] == 0;
+            if self.done[at] == 0 || no_open || no_places {
                 missing.push(format!("{service:?}: an answer of some kind"));
             }
-            for number in (1..=16).filter(|&number| service.may_refuse_by(number) && self.refused[at][number] == 0) {
+            for number in numbers().filter(|&number| service.may_refuse_by(number) && self.refused[at][row(number)] == 0) {
                 missing.push(format!("{service:?}: refusal {number}"));
             }
         }
@@ -56,7 +75,7 @@ impl Tally {
 
 impl fmt::Display for Tally {
     fn fmt(&self, out: &mut fmt::Formatter<'_>) -> fmt::Result {
-        let row = |out: &mut fmt::Formatter<'_>, name: &str, counts: &dyn Fn(Service) -> Option<usize>| {
+        let line = |out: &mut fmt::Formatter<'_>, name: &str, counts: &dyn Fn(Service) -> Option<usize>| {
             write!(out, "{name:<62}")?;
             for service in Service::ALL {
                 match counts(service) {
@@ -71,19 +90,68 @@ impl fmt::Display for Tally {
             write!(out, "{:>11}", format!("{service:?}"))?;
         }
         writeln!(out)?;
-        row(out, "done or ROBUST", &|service| Some(self.done[service as usize]))?;
-        row(out, "the same with places", &|service| {
-            (!matches!(service, Service::Read | Service::Judge)).then_some(self.with_places[service as usize])
-        })?;
-        row(out, "OPEN", &|service| {
-            matches!(service, Service::Judge | Service::JudgePatch).then_some(self.open[service as usize])
-        })?;
-        for number in 1..=16 {
-            let words = Refusal { number: number as u64, place: 0 };
-            row(out, &format!("{number:>2} {words}"), &|service| {
-                service.may_refuse_by(number).then_some(self.refused[service as usize][number])
+        line(out, "done or ROBUST", &|service| Some(self.done[service as usize]))?;
+        line(out, "the same with places", &|service| service.has_places().then_some(self.with_places[service as usize]))?;
+        line(out, "OPEN", &|service| service.judges().then_some(self.open[service as usize]))?;
+        for number in numbers() {
+            let words = Refusal { number, place: 0 };
+            line(out, &format!("{number:>2} {words}"), &|service| {
+                service.may_refuse_by(number).then_some(self.refused[service as usize][row(number)])
             })?;
         }
         write!(out, "longest chain: {} pairs", self.longest_chain)
+    }
+}
+
+#[cfg(test)]
+mod tests {
+    use super::*;
+
+    fn count(service: Service, kind: u64, first: u64) -> Tally {
+        let mut tally = Tally::default();
+        tally.count(service, raw::Answer { kind, first, second: 0, count: 0 }, 0);
+        tally
+    }
+
+    #[test]
+    fn each_refusal_in_its_own_row() {
+        for number in numbers() {
+            let given: Vec<Service> = Service::ALL.into_iter().filter(|service| service.may_refuse_by(number)).collect();
+            assert!(!given.is_empty(), "no service may refuse by {number}");
+            for service in given {
+                let refused = count(service, raw::Answer::REFUSED, number).refused[service as usize];
+                assert_eq!(numbers().filter(|&other| refused[row(other)] == 1).collect::<Vec<_>>(), [number]);
+            }
+        }
+    }
+
+    #[test]
+    #[should_panic(expected = "Judge refused by 17, which is none of its refusals")]
+    fn stops_at_a_number_beyond_the_table() {
+        count(Service::Judge, raw::Answer::REFUSED, REFUSALS as u64 + 1);
+    }
+
+    #[test]
+    #[should_panic(expected = "Write refused by 0, which is none of its refusals")]
+    fn stops_at_no_number() {
+        count(Service::Write, raw::Answer::REFUSED, 0);
+    }
+
+    #[test]
+    #[should_panic(expected = "Read refused by 13, which is none of its refusals")]
+    fn stops_at_a_refusal_of_another_service() {
+        count(Service::Read, raw::Answer::REFUSED, 13);
+    }
+
+    #[test]
+    #[should_panic(expected = "Judge answered with kind 3, which is none of its kinds")]
+    fn stops_at_an_unknown_kind() {
+        count(Service::Judge, 3, 0);
+    }
+
+    #[test]
+    #[should_panic(expected = "Write answered with kind 1, which is none of its kinds")]
+    fn stops_where_one_that_does_not_judge_says_open() {
+        count(Service::Write, raw::Answer::OPEN, 0);
     }
 }
