@@ -7,11 +7,10 @@ use std::hint::black_box;
 use std::time::{Duration, Instant};
 
 use compare::{Service, Side};
-use inputs::{Call, Random, Shape, SHAPES};
+use inputs::{length, Call, Random, Shape, CHAIN_BUFFER, NODES, QUESTIONS, SHAPES};
 
 const SEED: u64 = 128;
 const LISTINGS_A_SHAPE: usize = 20;
-const FULL: usize = 128;
 const SMALL: usize = 16;
 
 /// Rounds go on for this long; a slow one is not repeated.
@@ -49,7 +48,7 @@ struct Figures([f64; 4]);
 
 impl Figures {
     fn of(service: Service, shape: Shape, one_place_in: usize) -> Figures {
-        let full = calls(shape, FULL, one_place_in);
+        let full = calls(shape, NODES, one_place_in);
         let small = calls(shape, SMALL, one_place_in);
         must_agree(service, &full);
         Figures([
@@ -79,9 +78,9 @@ fn calls(shape: Shape, size: usize, one_place_in: usize) -> Vec<Call> {
         for place in 0..places {
             map[place * nodes / places] = 1;
         }
-        for question in 1..=4 {
+        for question in 1..=QUESTIONS as u64 {
             let (listing, map) = (listing.clone(), map.clone());
-            calls.push(Call { question, listing, map, chain_room: 258, map_room: nodes, listing_room: 7 + 6 * size });
+            calls.push(Call { question, listing, map, chain_room: CHAIN_BUFFER, map_room: nodes, listing_room: length(size) });
         }
     }
     calls

@@ -32,7 +32,7 @@ fn main() {
             tally.count(service, proved.0, places);
         }
     }
-    println!("{inputs} random inputs, five services each: all alike\n{tally}");
+    println!("{inputs} random inputs, {} services each: all alike\n{tally}", Service::ALL.len());
     let missing = tally.never_met();
     if !missing.is_empty() {
         panic!("never met, so ask for more with NYEKUSHIRO_INPUTS or mend the inputs: {}", missing.join("; "));

@@ -1,6 +1,6 @@
 //! What document 01 says of the services together, tried on random listings.
 
-use inputs::{random_listing, Random};
+use inputs::{nodes, random_listing, Random, Record, FENCE, NODES, NONE};
 use nyekushiro::{
     chain_pairs, judge, judge_patch, propose, read, write, Answer, Question, Refusal, CHAIN_BUFFER, LISTING_BUFFER,
 };
@@ -11,11 +11,11 @@ const LISTINGS: usize = 4000;
 fn on_random_listings(seed: u64, check: impl Fn(Question, &[u8], &[u8])) {
     let mut random = Random::seeded(seed);
     for _ in 0..LISTINGS {
-        let most = random.one_of(&[6, 12, 12, 40, 128]);
+        let most = random.one_of(&[6, 12, 12, 40, NODES]);
         let nodes = random.below(most + 1);
         let listing = random_listing(&mut random, nodes);
         let mut map = vec![0; nodes];
-        for _ in 0..random.below((128 - nodes).min(nodes) + 1) {
+        for _ in 0..random.below((NODES - nodes).min(nodes) + 1) {
             map[random.below(nodes)] = 1;
         }
         for question in Question::ALL {
@@ -38,7 +38,7 @@ fn written(listing: &[u8], map: &[u8]) -> Vec<u8> {
 #[test]
 fn proposal_is_accepted() {
     on_random_listings(11, |question, listing, _| {
-        let mut map = vec![7; listing[6] as usize];
+        let mut map = vec![7; nodes(listing)];
         match propose(question, listing, &mut map) {
             Ok(places) => {
                 assert_eq!(places, map.iter().filter(|&&byte| byte == 1).count());
@@ -52,7 +52,7 @@ fn proposal_is_accepted() {
 #[test]
 fn proposal_is_empty_exactly_for_a_robust_listing() {
     on_random_listings(12, |question, listing, _| {
-        let mut map = vec![7; listing[6] as usize];
+        let mut map = vec![7; nodes(listing)];
         let answer = judge(question, listing, &mut [0; CHAIN_BUFFER]).unwrap();
         match propose(question, listing, &mut map) {
             Ok(places) => assert_eq!(places == 0, answer == Answer::Robust),
@@ -70,14 +70,13 @@ fn proposal_is_empty_exactly_for_a_robust_listing() {
 #[test]
 fn more_places_are_accepted_where_fewer_are() {
     on_random_listings(13, |question, listing, map| {
-        let nodes = listing[6] as usize;
-        let mut proposal = vec![0; nodes];
+        let mut proposal = vec![0; nodes(listing)];
         let proposed = propose(question, listing, &mut proposal).is_ok();
         let other: Vec<u8> = map.iter().rev().copied().collect();
         for fewer in [map, &proposal] {
             let accepted = (proposed || fewer == map) && judged(question, listing, fewer).0 == Answer::Robust;
             let more: Vec<u8> = fewer.iter().zip(&other).map(|(one, other)| one | other).collect();
-            if accepted && nodes + more.iter().filter(|&&byte| byte == 1).count() <= 128 {
+            if accepted && more.len() + more.iter().filter(|&&byte| byte == 1).count() <= NODES {
                 assert_eq!(judged(question, listing, &more).0, Answer::Robust);
             }
         }
@@ -99,16 +98,14 @@ fn written_listing_reads_back() {
         let out = written(listing, map);
         let (old, new) = (read(listing).unwrap(), read(&out).unwrap());
         assert_eq!((new.nodes, new.routines), (old.nodes + map.iter().filter(|&&byte| byte == 1).count(), old.routines));
-        let record = |bytes: &[u8], node: usize| bytes[7 + 6 * node..13 + 6 * node].to_vec();
         let mut fence = old.nodes;
         for (node, &place) in map.iter().enumerate() {
-            let (before, after) = (record(listing, node), record(&out, node));
-            assert_eq!(before[..4], after[..4]);
+            let (before, after) = (Record::of(listing, node), Record::of(&out, node));
             if place == 0 {
-                assert_eq!(before[4..], after[4..]);
+                assert_eq!(after, before);
             } else {
-                assert_eq!(after[4..], [fence as u8, 255]);
-                assert_eq!(record(&out, fence), [before[0], 4, 0, 0, before[4], before[5]]);
+                assert_eq!(after, Record { first: fence as u8, second: NONE, ..before });
+                assert_eq!(Record::of(&out, fence), Record { kind: FENCE, location: 0, ..before });
                 fence += 1;
             }
         }
@@ -118,7 +115,7 @@ fn written_listing_reads_back() {
 #[test]
 fn empty_map_changes_nothing() {
     on_random_listings(16, |question, listing, _| {
-        let map = vec![0; listing[6] as usize];
+        let map = vec![0; nodes(listing)];
         let mut chain = [0; CHAIN_BUFFER];
         assert_eq!((judge(question, listing, &mut chain).unwrap(), chain), judged(question, listing, &map));
         assert_eq!(written(listing, &map), listing);
@@ -133,8 +130,8 @@ fn chain_is_a_chain() {
         };
         let pairs: Vec<(usize, usize)> = chain_pairs(&chain, count).collect();
         assert_eq!(pairs[0], (first, second));
-        assert!((2..=listing[6] as usize + 1).contains(&count));
-        let location = |node: usize| u16::from_le_bytes([listing[9 + 6 * node], listing[10 + 6 * node]]);
+        assert!((2..=nodes(listing) + 1).contains(&count));
+        let location = |node: usize| Record::of(listing, node).location;
         for (at, pair) in pairs.iter().enumerate() {
             assert!(!pairs[..at].contains(pair), "all different");
             let (end, next) = (location(pair.1), location(pairs[(at + 1) % count].0));

@@ -2,6 +2,7 @@
 
 use crate::damage::damaged;
 use crate::listings::random_listing;
+use crate::numbers::{length, CHAIN_BUFFER, NODES, QUESTIONS};
 use crate::random::Random;
 
 #[derive(Clone, Debug)]
@@ -23,9 +24,9 @@ impl Call {
         let listing = if random.once_in(5) { damaged(random, good) } else { good };
         Call {
             question: question(random),
-            chain_room: room(random, 258),
+            chain_room: room(random, CHAIN_BUFFER),
             map_room: room(random, nodes),
-            listing_room: room(random, 7 + 6 * (nodes + places)),
+            listing_room: room(random, length(nodes + places)),
             listing,
             map,
         }
@@ -35,9 +36,9 @@ impl Call {
 /// How many nodes: mostly few, at times as many as can be.
 fn count(random: &mut Random) -> usize {
     match random.below(40) {
-        0 => random.one_of(&[0, 1, 127, 128]),
-        1 => random.from_to(65, 128),
-        2..=4 => random.from_to(21, 64),
+        0 => random.one_of(&[0, 1, NODES - 1, NODES]),
+        1 => random.from_to(NODES / 2 + 1, NODES),
+        2..=4 => random.from_to(21, NODES / 2),
         5..=14 => random.from_to(9, 20),
         _ => random.from_to(1, 8),
     }
@@ -45,10 +46,11 @@ fn count(random: &mut Random) -> usize {
 
 /// A question, at times one that is good in its lowest byte alone.
 fn question(random: &mut Random) -> u64 {
+    let none = QUESTIONS as u64 + 1;
     match random.below(20) {
-        0 => random.one_of(&[0, 5, 6, 255, u64::MAX]),
-        1 => random.from_to(1, 4) as u64 + (1 << random.from_to(8, 63)),
-        _ => random.from_to(1, 4) as u64,
+        0 => random.one_of(&[0, none, none + 1, 255, u64::MAX]),
+        1 => random.from_to(1, QUESTIONS) as u64 + (1 << random.from_to(8, 63)),
+        _ => random.from_to(1, QUESTIONS) as u64,
     }
 }
 

@@ -5,6 +5,7 @@
 mod calls;
 mod damage;
 mod listings;
+mod numbers;
 mod random;
 mod rehearsed;
 mod shapes;
@@ -13,7 +14,8 @@ mod sketch;
 pub use calls::Call;
 pub use damage::damaged;
 pub use listings::{random_listing, tiny_listing};
+pub use numbers::*;
 pub use random::Random;
 pub use rehearsed::{Case, CASES};
 pub use shapes::{Shape, SHAPES};
-pub use sketch::{bytes, sketch, Record, NONE};
+pub use sketch::{bytes, sketch, Record};

@@ -1,13 +1,8 @@
 //! Listings by chance: good ones, of every shape.
 
+use crate::numbers::{FENCE, LAST_CELL, NONE, PLAIN, READ, RMW, ROUTINES, WRITE};
 use crate::random::Random;
-use crate::sketch::{bytes, Record, NONE};
-
-pub const PLAIN: u8 = 0;
-pub const READ: u8 = 1;
-pub const WRITE: u8 = 2;
-pub const RMW: u8 = 3;
-pub const FENCE: u8 = 4;
+use crate::sketch::{bytes, Record};
 
 /// How the nodes of a routine lead to each other.
 #[derive(Clone, Copy)]
@@ -39,7 +34,7 @@ pub fn random_listing(random: &mut Random, nodes: usize) -> Vec<u8> {
     if random.once_in(12) {
         return lonely_line(random, nodes);
     }
-    let most = random.one_of(&[4, 4, 4, 16]);
+    let most = random.one_of(&[4, 4, 4, ROUTINES]);
     let routines = random.from_to(1, most);
     let links = random.one_of(&[Links::Line, Links::Branches, Links::Loops, Links::Anywhere, Links::Pieces]);
     listing(random, nodes, routines, links)
@@ -51,7 +46,7 @@ pub fn tiny_listing(random: &mut Random) -> Vec<u8> {
         let (nodes, routines) = (random.from_to(1, 5), random.from_to(1, 2));
         let links = random.one_of(&[Links::Line, Links::Branches, Links::Loops, Links::Anywhere, Links::Pieces]);
         let listing = listing(random, nodes, routines, links);
-        if listing[7..].chunks(6).filter(|record| (READ..=RMW).contains(&record[1])).count() <= 4 {
+        if (0..nodes).filter(|&node| (READ..=RMW).contains(&Record::of(&listing, node).kind)).count() <= 4 {
             return listing;
         }
     }
@@ -103,9 +98,9 @@ impl Palette {
         if random.once_in(self.unknown_once_in) {
             0
         } else if random.once_in(self.block_once_in) {
-            32767 + number
+            LAST_CELL + number
         } else if random.once_in(50) {
-            random.one_of(&[32767, 65535])
+            random.one_of(&[LAST_CELL, u16::MAX])
         } else {
             number
         }
@@ -139,7 +134,7 @@ fn in_order(one: Option<u8>, other: Option<u8>) -> (u8, u8) {
 /// Pieces of two or three nodes that lead from one cell to the next and around, so that the only chain has all of them.
 pub fn ring(random: &mut Random, nodes: usize) -> Vec<u8> {
     let size = random.from_to(2, 3);
-    let (pieces, routines) = (nodes / size, random.from_to(1, 16));
+    let (pieces, routines) = (nodes / size, random.from_to(1, ROUTINES));
     let mut order: Vec<usize> = (0..pieces).collect();
     for at in (1..pieces).rev() {
         order.swap(at, random.below(at + 1));

@@ -1,5 +1,7 @@
 //! "Rehearsed listings", by hand.
 
+use crate::numbers::QUESTIONS;
+
 const A: &str = "w1 r2; w2 r1";
 const G: &str = "w1 u3 r2; w2 u3 r1";
 const F: &str = "w1 u1 r2; w2 u2 r1";
@@ -10,7 +12,7 @@ pub struct Case {
     pub name: &'static str,
     pub listing: &'static str,
     pub map: &'static [u8],
-    pub lines: [&'static str; 4],
+    pub lines: [&'static str; QUESTIONS],
 }
 
 pub const CASES: &[Case] = &[
@@ -28,7 +30,7 @@ pub const CASES: &[Case] = &[
         lines: ["ROBUST", "OPEN 0 1 2 0-1 2-3", "OPEN 0 1 2 0-1 2-3", "OPEN 2 3 2 2-3 0-1"],
     },
     Case { name: "D", listing: A, map: &[1, 0, 0, 0], lines: ["OPEN 2 3 2 2-3 0-1", "OPEN 2 3 2 2-3 0-1", "ROBUST", "ROBUST"] },
-    Case { name: "E", listing: A, map: &[1, 0, 1, 0], lines: ["ROBUST"; 4] },
+    Case { name: "E", listing: A, map: &[1, 0, 1, 0], lines: ["ROBUST"; QUESTIONS] },
     Case {
         name: "G",
         listing: G,
@@ -53,13 +55,13 @@ pub const CASES: &[Case] = &[
         map: &[0; 4],
         lines: ["OPEN 0 1 2 0-1 2-3", "OPEN 0 1 2 0-1 2-3", "ROBUST", "ROBUST"],
     },
-    Case { name: "J with the cell x", listing: "w1 r1; w1 r1", map: &[0; 4], lines: ["ROBUST"; 4] },
+    Case { name: "J with the cell x", listing: "w1 r1; w1 r1", map: &[0; 4], lines: ["ROBUST"; QUESTIONS] },
     Case {
         name: "K",
         listing: "w1>1 r2>0",
         map: &[0; 2],
         lines: ["OPEN 0 1 2 0-1 1-0", "OPEN 0 1 2 0-1 1-0", "OPEN 1 0 2 1-0 0-1", "OPEN 1 0 2 1-0 0-1"],
     },
-    Case { name: "L", listing: "w0 w0", map: &[0; 2], lines: ["ROBUST"; 4] },
-    Case { name: "M", listing: "", map: &[], lines: ["ROBUST"; 4] },
+    Case { name: "L", listing: "w0 w0", map: &[0; 2], lines: ["ROBUST"; QUESTIONS] },
+    Case { name: "M", listing: "", map: &[], lines: ["ROBUST"; QUESTIONS] },
 ];

@@ -1,15 +1,16 @@
 //! Listings of one shape and any size, for timings.
 
-use crate::listings::{woven, FENCE, READ, RMW, WRITE};
+use crate::listings::woven;
+use crate::numbers::{FENCE, NONE, READ, RMW, ROUTINES, WRITE};
 use crate::random::Random;
-use crate::sketch::{bytes, Record, NONE};
+use crate::sketch::{bytes, Record};
 
 /// A shape's name, and a listing of it with this many nodes.
 pub type Shape = (&'static str, fn(&mut Random, usize) -> Vec<u8>);
 
 /// Every shape asks something else of a judge.
 pub const SHAPES: [Shape; 5] = [
-    // sixteen straight routines over few cells: most pairs fail, the first at once
+    // as many straight routines as can be over few cells: most pairs fail, the first at once
     ("lines", |random, nodes| lines(random, nodes, false)),
     // the same with a fence after each access: no pair fails, and all must be looked at
     ("fenced", |random, nodes| lines(random, nodes, true)),
@@ -22,7 +23,7 @@ pub const SHAPES: [Shape; 5] = [
 ];
 
 fn lines(random: &mut Random, nodes: usize, fenced: bool) -> Vec<u8> {
-    let size = nodes.div_ceil(16).max(2);
+    let size = nodes.div_ceil(ROUTINES).max(2);
     let records: Vec<Record> = (0..nodes)
         .map(|node| {
             let last = (node + 1) % size == 0 || node + 1 == nodes;
@@ -36,7 +37,7 @@ fn lines(random: &mut Random, nodes: usize, fenced: bool) -> Vec<u8> {
             }
         })
         .collect();
-    bytes(16, &records)
+    bytes(ROUTINES as u8, &records)
 }
 
 fn ring_of_pieces(nodes: usize) -> Vec<u8> {

@@ -1,7 +1,6 @@
 //! Listings by hand.
 
-/// "Successor 255 means none."
-pub const NONE: u8 = 255;
+use crate::numbers::{length, NONE};
 
 /// A record of a listing, good or bad.
 #[derive(Clone, Copy, Debug, PartialEq, Eq)]
@@ -11,6 +10,15 @@ pub struct Record {
     pub location: u16,
     pub first: u8,
     pub second: u8,
+}
+
+impl Record {
+    /// The record of a node, from a listing's bytes.
+    pub fn of(listing: &[u8], node: usize) -> Record {
+        let record = &listing[length(node)..];
+        let location = u16::from_le_bytes([record[2], record[3]]);
+        Record { routine: record[0], kind: record[1], location, first: record[4], second: record[5] }
+    }
 }
 
 /// The bytes of a listing with these records.

@@ -1,0 +1,43 @@
+//! The numbers of document 01, once for the inputs and the comparisons. The two sides that are compared have their own, and
+//! compare/tests/numbers.rs holds all to each other.
+
+/// Bytes of a listing's heading: the mark, the version, F and N.
+pub const HEADING: usize = 7;
+pub const VERSION_AT: usize = 3;
+pub const ROUTINES_AT: usize = 5;
+pub const NODES_AT: usize = 6;
+/// Bytes of a record.
+pub const RECORD: usize = 6;
+
+/// The most routines and the most nodes.
+pub const ROUTINES: usize = 16;
+pub const NODES: usize = 128;
+
+pub const PLAIN: u8 = 0;
+pub const READ: u8 = 1;
+pub const WRITE: u8 = 2;
+pub const RMW: u8 = 3;
+pub const FENCE: u8 = 4;
+/// How many kinds there are.
+pub const KINDS: u8 = 5;
+
+/// "Successor 255 means none."
+pub const NONE: u8 = 255;
+/// The last location that is one cell; blocks of cells follow.
+pub const LAST_CELL: u16 = 32767;
+
+/// How many questions there are; they are numbered from 1.
+pub const QUESTIONS: usize = 4;
+
+/// "The chain buffer must have 258 bytes."
+pub const CHAIN_BUFFER: usize = 258;
+
+/// The bytes of a listing with this many nodes; the record of node `nodes` would start there.
+pub const fn length(nodes: usize) -> usize {
+    HEADING + RECORD * nodes
+}
+
+/// N, as the heading says it.
+pub fn nodes(listing: &[u8]) -> usize {
+    listing[NODES_AT] as usize
+}
