@@ -67,7 +67,7 @@ fn good_at_the_edge() {
 
 #[test]
 fn question_comes_first() {
-    for question in [0, 5, 257, 1 << 32 | 1, u64::MAX] {
+    for question in [0, 5, 257, (1 << 32) | 1, u64::MAX] {
         assert_eq!(judge(question, &[], &mut []), refused(1, 0));
         assert_eq!(judge_patch(question, &[], &[9], &mut []), refused(1, 0));
         assert_eq!(propose(question, &[], &mut []), refused(1, 0));
