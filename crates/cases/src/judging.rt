@@ -8,16 +8,16 @@ pub const NO_QUESTION: u64 = order::QUESTIONS as u64 + 1;
 
 // What stands before an answer: the case's name and the question.
 pub fn heading(name: &[u8], question: u64) {
-    say::text(name);
-    say::next(question as usize);
-    say::text(b": ");
+    print::text(name);
+    print::next(question as usize);
+    print::text(b": ");
 }
 
 fn ask(name: &[u8], question: u64, bytes: &[u8]) {
     heading(name, question);
     let mut chain = [0u8; CHAIN_BYTES];
     let answer = verdict::judge(question, bytes, &mut chain);
-    say::judged(answer, &chain);
+    print::judged(answer, &chain);
 }
 
 // The same with a chain buffer that lacks a byte.
@@ -25,7 +25,7 @@ fn ask_short(name: &[u8], question: u64, bytes: &[u8]) {
     heading(name, question);
     let mut chain = [0u8; CHAIN_BYTES];
     let answer = verdict::judge(question, bytes, &mut chain[1..]);
-    say::judged(answer, &chain);
+    print::judged(answer, &chain);
 }
 
 // A listing under each of the four questions.

@@ -10,7 +10,7 @@ fn ask(name: &[u8], question: u64, bytes: &[u8], map: &[u8]) {
     heading(name, question);
     let mut chain = [0u8; CHAIN_BYTES];
     let answer = patch::judge_patch(question, bytes, map, &mut chain);
-    say::judged(answer, &chain);
+    print::judged(answer, &chain);
 }
 
 // A listing and its map under each of the four questions.
@@ -25,17 +25,17 @@ fn propose(name: &[u8], question: u64, bytes: &[u8]) {
     heading(name, question);
     let mut map = [0u8; Listing::NODES];
     let answer = proposal::propose(question, bytes, &mut map);
-    say::proposed(answer, &map);
+    print::proposed(answer, &map);
 }
 
 // The nodes of the patched listing, under the case's name.
 fn write(name: &[u8], bytes: &[u8], map: &[u8]) {
-    say::text(name);
-    say::text(b":\n");
+    print::text(name);
+    print::text(b":\n");
     let mut out = [0u8; Listing::LONGEST];
     match patch::write(bytes, map, &mut out) {
-        WriteAnswer::Written { length } => say::shown(&out[..length]),
-        WriteAnswer::Refused { number, place } => say::refused(number, place),
+        WriteAnswer::Written { length } => print::shown(&out[..length]),
+        WriteAnswer::Refused { number, place } => print::refused(number, place),
     }
 }
 

@@ -24,8 +24,8 @@ fn map_length(bytes: &[u8]) -> usize
 fn write(bytes: &[u8], map: &[u8]) {
     let mut out = [0u8; Listing::LONGEST];
     match patch::write(bytes, map, &mut out) {
-        WriteAnswer::Written { length } => say::text(&out[..length]),
-        WriteAnswer::Refused { number, place } => say::refused(number, place),
+        WriteAnswer::Written { length } => print::text(&out[..length]),
+        WriteAnswer::Refused { number, place } => print::refused(number, place),
     }
 }
 
@@ -36,13 +36,16 @@ fn fence(question: u64, bytes: &[u8]) {
             let n = map_length(bytes);
             write(bytes, &map[..n]);
         }
-        ProposeAnswer::Refused { number, place } => say::refused(number, place),
+        ProposeAnswer::Refused { number, place } => print::refused(number, place),
     }
 }
 
 fn main() {
-    let question = say::question();
-    let mut input = [0u8; say::INPUT];
+    let mut input = say::room();
     let n = io::read_full(STDIN_FILENO, &mut input);
-    fence(question, &input[..n]);
+    if n == 0 {
+        print::refused(1, 0);
+        return;
+    }
+    fence(listing::wide(input[0]) as u64, &input[1..n]);
 }

@@ -1,11 +1,11 @@
 // Reads a question, one byte, and a listing from standard input, and writes the judge's answer as one line.
 use libc::STDIN_FILENO;
+use libc::STDOUT_FILENO;
 
 fn main() {
-    let question = say::question();
-    let mut input = [0u8; say::INPUT];
+    let mut input = say::room();
     let n = io::read_full(STDIN_FILENO, &mut input);
-    let mut chain = [0u8; verdict::CHAIN_BYTES];
-    let answer = verdict::judge(question, &input[..n], &mut chain);
-    say::judged(answer, &chain);
+    let mut line = [0u8; say::LINE];
+    let length = say::judge(&input[..n], &mut line);
+    io::write_all(STDOUT_FILENO, &line[..length]);
 }

@@ -38,7 +38,7 @@ judge-patch-once q s map old new new′ r r′ h k =
     let o = judging-once (firstOf (judgePatchRules q s map old)) q (patchedOf s map) old new new′ (judgeSays r) (judgeSays r′) h k in
     (says-once r r′ (o .0), o .1)
 
-propose-says-once : (r r′ : ProposeAnswer) → proposeSays r ≡ proposeSays r′ → r ≡ r′
+pub propose-says-once : (r r′ : ProposeAnswer) → proposeSays r ≡ proposeSays r′ → r ≡ r′
 propose-says-once (proposing.Proposed n) (proposing.Proposed n′) e = ap proposing.Proposed (ap (λ (x : Answer). x .count) e)
 propose-says-once (proposing.Proposed n) (proposing.Refused k p) e = absurd (omega (arith, one-kind e))
 propose-says-once (proposing.Refused k p) (proposing.Proposed n) e = absurd (omega (arith, one-kind e))

@@ -1,13 +1,11 @@
 // Reads a question, one byte, and a listing from standard input, and writes the places of the proposed fences as one line.
 use libc::STDIN_FILENO;
-use listing::Listing;
+use libc::STDOUT_FILENO;
 
 fn main() {
-    let question = say::question();
-    let mut input = [0u8; say::INPUT];
+    let mut input = say::room();
     let n = io::read_full(STDIN_FILENO, &mut input);
-    // Beyond the listing's nodes the map keeps its zeros, and so has no place.
-    let mut map = [0u8; Listing::NODES];
-    let answer = proposal::propose(question, &input[..n], &mut map);
-    say::proposed(answer, &map);
+    let mut line = [0u8; say::LINE];
+    let length = say::propose(&input[..n], &mut line);
+    io::write_all(STDOUT_FILENO, &line[..length]);
 }

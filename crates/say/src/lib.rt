@@ -1,111 +1,56 @@
-// Answers as lines of text on standard output, the same for every program.
-mod nodes;
-mod words;
+// Answers as lines of text, the same for every program.
+mod line;
 
-use libc::STDIN_FILENO;
-use libc::STDOUT_FILENO;
+ghost use mathlib.Core.Path.{_≡_};
+ghost use lib.ListN.{length};
+ghost use Rattle.io.specs.Counts.{Counts};
+ghost use Rattle.say.specs.Lines.{JudgeLinePromise, ProposeLinePromise};
+ghost use Rattle.say.specs.Lines.{INPUT as Lines·INPUT};
+pub use line::judged;
+pub use line::proposed;
+pub use line::refusal;
+pub use line::refused;
 use listing::Listing;
-pub use nodes::shown;
-use patch::ProposeAnswer;
 use verdict::CHAIN_BYTES;
-use verdict::JudgeAnswer;
-pub use words::explained;
 
-// The longest listing, and one byte more: an input cut there is still longer than any listing, and so refused by 7 at the latest.
-pub const INPUT: usize = Listing::LONGEST + 1;
+// A question, the longest listing, and one byte more: an input that is cut there has the same line (`cut` in proofs/Cut.antt).
+pub const INPUT: usize = 1 + Listing::LONGEST + 1;
 
-// The question, one byte of standard input, or 0, which is no question's number, where there is none.
-pub fn question() -> u64 {
-    let mut byte = [0u8; 1];
-    if io::read_full(STDIN_FILENO, &mut byte) == 0 {
-        return 0;
+// OPEN with three numbers of 64 bits, as many pairs as a chain buffer has, and the line's end.
+pub const LINE: usize = 4 + 3 * 21 + CHAIN_BYTES / 2 * 8 + 1;
+
+// Zeros for a program's input.
+pub fn room() -> [u8; INPUT]
+    ensures { λ r. ⌜ Lines·INPUT ≡ length r ⌝ }
+{
+    [0; INPUT]
+}
+
+// The judge program's line of its whole input, and how long it is.
+pub fn judge(input: &[u8], line: &mut [u8; LINE]) -> usize
+    ensures { λ r. ⌜ JudgeLinePromise (now (input .entry)) (now (line .entry)) (now (line .exit)) r ⌝ }
+    ensures { λ r. ⌜ Counts r (now (line .exit)) ⌝ }
+{
+    if input.len() == 0 {
+        return line::unasked(line);
     }
-    listing::wide(byte[0]) as u64
+    let question = listing::wide(input[0]) as u64;
+    let mut chain = [0u8; CHAIN_BYTES];
+    let answer = verdict::judge(question, &input[1..], &mut chain);
+    line::judged(line, answer, &chain)
 }
 
-pub fn text(words: &[u8]) {
-    io::write_all(STDOUT_FILENO, words);
-}
-
-pub fn number(n: usize) {
-    io::print_decimal(STDOUT_FILENO, n as u64);
-}
-
-// A number after a space.
-pub fn next(n: usize) {
-    text(b" ");
-    number(n);
-}
-
-pub fn refusal(number: u8, place: usize) {
-    text(b"REFUSED");
-    next(number as usize);
-    next(place);
-}
-
-pub fn refused(number: u8, place: usize) {
-    refusal(number, place);
-    text(b"\n");
-}
-
-fn pair(a: u8, b: u8) {
-    next(a as usize);
-    text(b"-");
-    number(b as usize);
-}
-
-// The pairs of a chain, as far as the buffer goes.
-fn pairs(chain: &[u8; CHAIN_BYTES], count: usize) {
-    let mut i: usize = 0;
-    while i < count {
-        if CHAIN_BYTES / 2 <= i {
-            return;
-        }
-        pair(chain[2 * i], chain[2 * i + 1]);
-        i += 1;
+// The proposer's line of its whole input, and how long it is.
+pub fn propose(input: &[u8], line: &mut [u8; LINE]) -> usize
+    ensures { λ r. ⌜ ProposeLinePromise (now (input .entry)) (now (line .entry)) (now (line .exit)) r ⌝ }
+    ensures { λ r. ⌜ Counts r (now (line .exit)) ⌝ }
+{
+    if input.len() == 0 {
+        return line::unasked(line);
     }
-}
-
-// The judge's line.
-pub fn judged(answer: JudgeAnswer, chain: &[u8; CHAIN_BYTES]) {
-    match answer {
-        JudgeAnswer::Robust => text(b"ROBUST\n"),
-        JudgeAnswer::Refused { number, place } => refused(number, place),
-        JudgeAnswer::Open {
-            first,
-            second,
-            count,
-        } => {
-            text(b"OPEN");
-            next(first);
-            next(second);
-            next(count);
-            pairs(chain, count);
-            text(b"\n");
-        }
-    }
-}
-
-// The places of a map, each after a space.
-fn places(map: &[u8]) {
-    let mut i: usize = 0;
-    while i < map.len() {
-        if map[i] == 1 {
-            next(i);
-        }
-        i += 1;
-    }
-}
-
-// The proposer's line: how many places its map has, and each.
-pub fn proposed(answer: ProposeAnswer, map: &[u8]) {
-    match answer {
-        ProposeAnswer::Refused { number, place } => refused(number, place),
-        ProposeAnswer::Proposed { places: count } => {
-            text(b"PROPOSED");
-            next(count);
-            places(map);
-            text(b"\n");
-        }
-    }
+    let question = listing::wide(input[0]) as u64;
+    // Beyond the listing's nodes the map keeps its zeros, and so has no place.
+    let mut map = [0u8; Listing::NODES];
+    let answer = proposal::propose(question, &input[1..], &mut map);
+    line::proposed(line, answer, &map)
 }

@@ -2,7 +2,7 @@
 use libc::STDIN_FILENO;
 
 fn main() {
-    let mut input = [0u8; say::INPUT];
+    let mut input = say::room();
     let n = io::read_full(STDIN_FILENO, &mut input);
-    say::shown(&input[..n]);
+    print::shown(&input[..n]);
 }

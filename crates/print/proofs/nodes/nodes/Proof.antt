@@ -1,8 +1,8 @@
--- `say::nodes::nodes` is safe: each node that it asks for is one of the listing.
+-- `print::nodes::nodes` is safe: each node that it asks for is one of the listing.
 use Prim.Native.Nat.{_-_}
 use borrow.Author.Needs.{needs}
-use Rattle.say.proofs.nodes.nodes.Statement.{statement}
-use Rattle.say.proofs.nodes.nodes.Tie as tie
+use Rattle.print.proofs.nodes.nodes.Statement.{statement}
+use Rattle.print.proofs.nodes.nodes.Tie as tie
 
 abbrev Inv-loop : tie.InvT-loop
 Inv-loop bytes n i₀ i = Unit

@@ -1,9 +1,9 @@
--- `say::nodes::shown` is safe: a listing that was read is whole.
+-- `print::nodes::shown` is safe: a listing that was read is whole.
 use Rattle.listing.proofs.Reading.{admitted-whole}
 use Rattle.listing.proofs.ReadPromise.{read-good}
 use borrow.Author.Needs.{needs}
-use Rattle.say.proofs.nodes.shown.Statement.{statement}
-use Rattle.say.proofs.nodes.shown.Tie as tie
+use Rattle.print.proofs.nodes.shown.Statement.{statement}
+use Rattle.print.proofs.nodes.shown.Tie as tie
 
 read-requires : tie.Need-read-requires
 read-requires c κs = search needs

@@ -1,0 +1,7 @@
+pub mod Lining
+pub mod Pieces
+pub mod Judging
+pub mod Proposing
+pub mod Once
+pub mod Cut
+pub mod CaseA
