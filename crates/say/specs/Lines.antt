@@ -50,7 +50,7 @@ abbrev pub proposalLine : ℕ → List ℕ → List ℕ
 proposalLine n each = bytes "PROPOSED" ++ (next n ++ (each ++ bytes "\n"))
 
 -- ── The judge program ───────────────────────────────────────────────────────
--- "It writes one line", of the question q and the nodes L
+-- "It writes one line", of the question q and the nodes L. The program lends 258 bytes itself, so 16 is never met
 abbrev pub JudgedLine : Refusal → ℕ → Listing → List ℕ → Type 0
 JudgedLine passed q L line = (v : Verdict) × Judged q L v × (line ≡ verdictLine v)
 JudgedLine (refused k p) q L line = line ≡ refusalLine k p

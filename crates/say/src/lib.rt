@@ -13,7 +13,7 @@ pub use line::refused;
 use listing::Listing;
 use verdict::CHAIN_BYTES;
 
-// A question, the longest listing, and one byte more: an input that is cut there has the same line (`cut` in proofs/Cut.antt).
+// A question, the longest listing, and one byte more: an input that is cut there has the same line (proofs/Cut.antt).
 pub const INPUT: usize = 1 + Listing::LONGEST + 1;
 
 // OPEN with three numbers of 64 bits, as many pairs as a chain buffer has, and the line's end.
