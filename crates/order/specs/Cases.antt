@@ -1,4 +1,4 @@
--- The rehearsed listings, cases A to L, as one table. The file serves a test alone: `cases-right` in proofs/Cases.antt says that every row is right.
+-- The rehearsed listings, cases A to L, as one table. It serves computed tests alone: `cases-right` in proofs/Cases.antt says that every row is right.
 use mathlib.Core.List.{List, [], _∷_}
 use mathlib.Core.Bool.{true, false}
 use Prim.Native.Nat.{ℕ}
