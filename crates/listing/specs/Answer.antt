@@ -1,4 +1,4 @@
--- An answer in the paper's numbers: what every promise speaks of, and what the exported services hand out.
+-- An answer in the rules' numbers: what every promise speaks of, and what the exported services hand out.
 use Prim.Native.Nat.{ℕ}
 use mathlib.Core.List.{List, _++_}
 use lib.ListN.{length, drop}

@@ -52,7 +52,7 @@ nodesFrom s o (suc k) = nodeFrom s o ∷ nodesFrom s (o + RECORD) k
 unfoldable pub nodesOf : List ℕ → Listing
 nodesOf s = nodesFrom s HEADING (countN s)
 
--- "the mark `ORD` (4F 52 44), a 16-bit version, the routine count F, the node count N"
+-- "the mark `ORD` (4F 52 44), a 16-bit version [..], the routine count F [..], the node count N"
 abbrev pub headingBytes : ℕ → ℕ → ℕ → List ℕ
 headingBytes v f n = 0x4F ∷ 0x52 ∷ 0x44 ∷ v % 256 ∷ v / 256 ∷ f ∷ n ∷ []
 

@@ -3,7 +3,7 @@ use mathlib.Core.List.{List}
 use Prim.Native.Nat.{ℕ}
 use lib.ListN.{getD}
 
--- "routine, kind, location, first successor, second successor"
+-- "routine [..], kind [..], location [..], first successor [..], second successor"
 pub record Node : Type 0 where
   pub routine : ℕ
   pub kind : ℕ

@@ -77,7 +77,7 @@ readRules s = headingRules s ++ nodesRules s 0 (countN s)
 abbrev pub Admitted : List ℕ → Type 0
 Admitted s = firstOf (readRules s) ≡ passed
 
--- the paper's number and values for each case of the reader's answer
+-- the rules' number and values for each case of the reader's answer
 abbrev pub readSays : ReadAnswer → Answer
 readSays (Good l) = done (l .nodes) (l .routines) 0
 readSays (Refused k p) = refusal k p

@@ -4,7 +4,7 @@ use Rattle.listing.specs.Answer as paper
 use Rattle.nyekushiro.specs.declared.Answer.{Answer}
 use Rattle.nyekushiro.specs.Exported.{said}
 
--- ONE STRUCT for each answer of the paper
+-- ONE STRUCT for each answer of the rules
 pub said-once : (r r′ : Answer) → said r ≡ said r′ → r ≡ r′
 said-once r r′ e = λ i. record {
   kind = ap (λ (x : paper.Answer). x .kind) e i;

@@ -1,4 +1,4 @@
--- The exported answer, as the paper's numbers.
+-- The exported answer, as the rules' numbers.
 use Rattle.listing.specs.Answer as paper
 use Rattle.nyekushiro.specs.declared.Answer.{Answer}
 

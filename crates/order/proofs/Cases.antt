@@ -1,4 +1,4 @@
--- The rehearsed listings have the answers that the paper gives: one table, one statement, computed.
+-- The rehearsed listings have the answers that the rules give: one table, one statement, computed.
 use mathlib.Core.List.{List}
 use mathlib.Core.Bool.{Bool}
 use lib.Dec.{T}

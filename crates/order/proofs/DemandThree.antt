@@ -1,4 +1,4 @@
--- Demand 3: a listing is robust exactly if each step of each closed chain of steps is in order or free of need.
+-- The third demand: a listing is robust exactly if each step of each closed chain of steps is in order or free of need.
 use mathlib.Core.Path.{_≡_, refl, sym, _∙_}
 use mathlib.Core.Logic.{_↔_, _⊎_, inl, inr}
 use mathlib.Core.List.{List, [], _∷_, map}
@@ -118,6 +118,6 @@ ordered-robust q L h a b f = go (h s ss ring .0)
     go (inl (inr x)) = all-in (λ c. Barrier q L a b c → ⊥) (f .unbarred .0) (f .unbarred .2) (x .0) (x .1) (x .2)
     go (inr n) = n (f .needs)
 
--- DEMAND 3
+-- THE THIRD DEMAND
 pub demand3 : (q : ℕ) (L : Listing) → Robust q L ↔ Ordered q L
 demand3 q L = (robust-ordered q L, ordered-robust q L)

@@ -17,7 +17,7 @@ pub record Case : Type 0 where
 abbrev of : ℕ → Listing → Marks → Verdict → Case
 of q L ms v = record { question = q; listing = L; map = ms; verdict = v }
 
--- "routine, kind, location, first successor, second successor"
+-- "routine [..], kind [..], location [..], first successor [..], second successor"
 abbrev at : ℕ → ℕ → ℕ → ℕ → ℕ → Node
 at r k l f s = record { routine = r; kind = k; location = l; first = f; second = s }
 
@@ -81,7 +81,7 @@ caseK = at 0 WRITE x 1 none ∷ at 0 READ y 0 none ∷ []
 abbrev pub caseL : Listing
 caseL = at 0 WRITE 0 1 none ∷ at 0 WRITE 0 none none ∷ []
 
--- every question that the paper answers for them
+-- every question that the rules answer for them
 abbrev pub cases : List Case
 cases =
     of 1 caseA [] (opened (0, 1) ((2, 3) ∷ []))
@@ -118,7 +118,7 @@ ownPairs = at 0 WRITE block 0 none ∷ at 1 WRITE block 1 none ∷ []
 abbrev pub neighbours : Listing
 neighbours = at 0 WRITE x 1 none ∷ at 0 READ y none none ∷ at 1 READ y 3 none ∷ at 1 READ z none none ∷ at 2 READ w 5 none ∷ at 2 WRITE x none none ∷ []
 
--- two of the paper's "shortcuts that look right", as rows
+-- two of the rules' "shortcuts that look right", as rows
 abbrev pub shortcuts : List Case
 shortcuts = of 2 ownPairs [] (opened (0, 0) ((1, 1) ∷ [])) ∷ of 1 neighbours [] robust ∷ of 2 neighbours [] robust ∷ []
 

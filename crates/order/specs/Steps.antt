@@ -1,4 +1,4 @@
--- Demand 3: closed chains of steps, over walks and the need-for-order table.
+-- The third demand: closed chains of steps, over walks and the need-for-order table.
 use mathlib.Core.Path.{_≡_}
 use mathlib.Core.Logic.{_⊎_}
 use mathlib.Core.List.{List, _∷_}

@@ -1,4 +1,4 @@
--- Demand 3 about judging with a map: accepted exactly if the map fits and every closed chain of steps of the patched listing has each step
+-- The third demand about judging with a map: accepted exactly if the map fits and every closed chain of steps of the patched listing has each step
 -- in order or free of need; and which maps are accepted.
 use mathlib.Core.Path.{_≡_, sym, _∙_, subst}
 use mathlib.Core.Logic.{_↔_}
@@ -93,7 +93,7 @@ module _ (q : ℕ) (s map old : List ℕ) where
       refused-15 : (Fits s (marksOf map) → ⊥) → r ≡ refusal 15 0
       refused-15 n = by-table (refused 15 0) (call-refused spoken (omega arith)) .0
 
-      -- DEMAND 3
+      -- THE THIRD DEMAND
       pub demand3 : Accepted r ↔ (Fits s (marksOf map) × Ordered q (patched (nodesOf s) (marksOf map)))
       demand3 = (
         λ a. go a (decLe (countN s + places (marksOf map)) NODES),

@@ -1,4 +1,4 @@
--- What demand 3 says of judging with a map: which calls it speaks of, and when a map is accepted.
+-- What the third demand says of judging with a map: which calls it speaks of, and when a map is accepted.
 use mathlib.Core.Path.{_≡_}
 use mathlib.Core.Bool.{true}
 use mathlib.Core.List.{List, _++_}

@@ -46,7 +46,7 @@ abbrev pub JudgePatchPromise : ℕ → List ℕ → List ℕ → List ℕ → Li
 JudgePatchPromise q s map old new r = Judging (firstOf (judgePatchRules q s map old)) q (patched (nodesOf s) (marksOf map)) old new r
 
 -- ── Proposing ───────────────────────────────────────────────────────────────
--- the paper's number and values for each case of propose's answer: "how many places hold 1"
+-- the rules' number and values for each case of propose's answer: "how many places hold 1"
 abbrev pub proposeSays : ProposeAnswer → Answer
 proposeSays (proposing.Proposed n) = done 0 0 n
 proposeSays (proposing.Refused k p) = refusal k p
@@ -82,7 +82,7 @@ abbrev pub ProposePromise : ℕ → List ℕ → List ℕ → List ℕ → Answe
 ProposePromise q s old new r = Proposing (firstOf (askRules q s)) q s old new r
 
 -- ── Writing ─────────────────────────────────────────────────────────────────
--- the paper's number and values for each case of write's answer: "answers that length"
+-- the rules' number and values for each case of write's answer: "answers that length"
 abbrev pub writeSays : WriteAnswer → Answer
 writeSays (writing.Written n) = done 0 0 n
 writeSays (writing.Refused k p) = refusal k p

@@ -1,4 +1,4 @@
--- "For 01 and case A it prints exactly `OPEN 0 1 2 0-1 2-3`", computed from the paper's 31 bytes.
+-- "For 01 and case A it prints exactly `OPEN 0 1 2 0-1 2-3`", computed from its 31 bytes.
 use mathlib.Core.Path.{_≡_, refl, sym, subst}
 use mathlib.Core.List.{List, [], _∷_}
 use Prim.Native.Nat.{ℕ}
@@ -55,7 +55,7 @@ nodes = refl
 right : Judged 1 caseA verdict
 right = checked 1 caseA verdict .0 tt
 
--- THE PAPER'S EXAMPLE
+-- THE RULES' EXAMPLE
 pub case-a-line : JudgeLine (0x01 ∷ listing) (bytes "OPEN 0 1 2 0-1 2-3\n")
 case-a-line =
     subst

@@ -37,7 +37,7 @@ CHAIN = 2 * (NODES + 1)
 unfoldable pub judgeRules : ℕ → List ℕ → List ℕ → List Rule
 judgeRules q s chain = questionRules q ++ (readRules s ++ bufferRules CHAIN chain)
 
--- the paper's number and values for each case of judge's answer
+-- the rules' number and values for each case of judge's answer
 abbrev pub judgeSays : JudgeAnswer → Answer
 judgeSays Robust = done 0 0 0
 judgeSays (Open a b n) = openAt a b n
@@ -48,7 +48,7 @@ abbrev pub chainBytes : List Ends → List ℕ
 chainBytes [] = []
 chainBytes (p ∷ ps) = p .0 ∷ p .1 ∷ chainBytes ps
 
--- "ROBUST, or OPEN with the first failing pair, the number of pairs in its chain, and the chain"
+-- "ROBUST, or OPEN with the first failing pair [..], the number of pairs in its chain, and the chain"
 abbrev pub verdictSays : Verdict → Answer
 verdictSays robust = done 0 0 0
 verdictSays (opened p rest) = openAt (p .0) (p .1) (length (p ∷ rest))
