@@ -1,4 +1,4 @@
-//! The numbers of document 01, once for the inputs and the comparisons. The two sides that are compared have their own, and
+//! The numbers of the rules, once for the inputs and the comparisons. The two sides that are compared have their own, and
 //! compare/tests/numbers.rs holds all to each other.
 
 /// Bytes of a listing's heading: the mark, the version, F and N.

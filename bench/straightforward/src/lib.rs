@@ -1,6 +1,6 @@
-//! The five services, written straight from document 01's text: an answer of its own to hold against the proved judge.
+//! The five services, written straight from the text of the rules (docs/RULES.md, docs/LISTING.md): an answer of its own to hold against the proved judge.
 //!
-//! Each file is one idea of the document, in its words. Nothing here is meant to be fast.
+//! Each file is one idea of the rules, in their words. Nothing here is meant to be fast.
 //!
 //! ```
 //! let sb = b"ORD\x01\x00\x02\x04\x00\x02\x01\x00\x01\xff\x00\x01\x02\x00\xff\xff\x01\x02\x02\x00\x03\xff\x01\x01\x01\x00\xff\xff";

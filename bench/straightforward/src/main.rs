@@ -1,4 +1,4 @@
-//! `straightforward < INPUT`: the judge program's line, worked out by document 01's text. INPUT is a byte for the question,
+//! `straightforward < INPUT`: the judge program's line, worked out by the text of the rules. INPUT is a byte for the question,
 //! then the listing.
 
 use std::io::{self, Read};

@@ -119,7 +119,7 @@ impl<'a> Tiny<'a> {
         pairs.iter().filter(|pair| fails(pair)).filter_map(|&pair| self.shown_chain(&pairs, pair)).collect()
     }
 
-    /// Demand 3: every closed chain of at most `most` steps has each step in order or free of need.
+    /// The third demand: every closed chain of at most `most` steps has each step in order or free of need.
     ///
     /// A closed chain may start at any of its steps, so only its first step is looked at.
     fn ordered(&self, most: usize) -> bool {
