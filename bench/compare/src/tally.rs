@@ -2,11 +2,12 @@
 
 use std::fmt;
 
-use nyekushiro::{raw, Refusal, REFUSALS};
+use nyekushiro::{raw, Reason};
 
 use crate::Service;
 
 const SERVICES: usize = Service::ALL.len();
+const REFUSALS: usize = Reason::ALL.len();
 
 /// By service: what it said where it did not refuse, and then each refusal.
 #[derive(Default)]
@@ -94,8 +95,7 @@ impl fmt::Display for Tally {
         line(out, "the same with places", &|service| service.has_places().then_some(self.with_places[service as usize]))?;
         line(out, "OPEN", &|service| service.judges().then_some(self.open[service as usize]))?;
         for number in numbers() {
-            let words = Refusal { number, place: 0 };
-            line(out, &format!("{number:>2} {words}"), &|service| {
+            line(out, &format!("{number:>2} {}", Reason::from(number)), &|service| {
                 service.may_refuse_by(number).then_some(self.refused[service as usize][row(number)])
             })?;
         }

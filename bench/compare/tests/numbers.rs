@@ -1,7 +1,7 @@
 //! The numbers of the inputs are those of both sides.
 
 use inputs as ours;
-use nyekushiro::Question;
+use nyekushiro::{raw, Question};
 use straightforward as plain;
 
 #[test]
@@ -9,7 +9,7 @@ fn of_the_listing() {
     assert_eq!((ours::HEADING, ours::RECORD), (plain::HEADING, plain::RECORD));
     assert_eq!((ours::ROUTINES, ours::NODES), (plain::MOST_ROUTINES, plain::MOST_NODES));
     assert_eq!(ours::NONE, plain::NONE);
-    assert_eq!(ours::length(ours::NODES), nyekushiro::LISTING_BUFFER);
+    assert_eq!((ours::NODES, ours::length(ours::NODES)), (raw::MAP_BUFFER, raw::LISTING_BUFFER));
     let kinds = [ours::PLAIN, ours::READ, ours::WRITE, ours::RMW, ours::FENCE];
     let named = [plain::Kind::Plain, plain::Kind::Read, plain::Kind::Write, plain::Kind::Rmw, plain::Kind::Fence];
     assert_eq!(kinds.map(plain::Kind::of), named.map(Some));
@@ -18,7 +18,7 @@ fn of_the_listing() {
 
 #[test]
 fn of_the_services() {
-    assert_eq!([plain::CHAIN_BUFFER, nyekushiro::CHAIN_BUFFER], [ours::CHAIN_BUFFER; 2]);
+    assert_eq!([plain::CHAIN_BUFFER, raw::CHAIN_BUFFER], [ours::CHAIN_BUFFER; 2]);
     let questions: Vec<u64> = Question::ALL.into_iter().map(u64::from).collect();
     assert_eq!(questions, (1..=ours::QUESTIONS as u64).collect::<Vec<_>>());
 }

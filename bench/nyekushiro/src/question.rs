@@ -1,24 +1,115 @@
 //! The four questions.
 
-/// "1 SC on x86; 2 SC on ARMv7; 3 x86 on ARMv7; 4 ARMv8 on ARMv7"
+use std::fmt;
+use std::str::FromStr;
+
+/// What can be asked of a listing. It is read from its number or its name, and its `Display` is its name.
 ///
 /// ```
-/// assert_eq!(u64::from(nyekushiro::Question::X86OnArmv7), 3);
+/// use nyekushiro::Question;
+/// assert_eq!("x86-armv7".parse(), Ok(Question::X86OnArmv7));
+/// assert_eq!("3".parse(), Ok(Question::X86OnArmv7));
+/// assert_eq!(Question::try_from(3), Ok(Question::X86OnArmv7));
+/// assert_eq!(Question::X86OnArmv7.to_string(), "x86-armv7");
+/// assert_eq!(u64::from(Question::X86OnArmv7), 3);
 /// ```
-#[derive(Clone, Copy, Debug, PartialEq, Eq)]
+#[derive(Clone, Copy, Debug, PartialEq, Eq, Hash)]
+#[non_exhaustive]
 pub enum Question {
+    /// Does it behave on x86 as if each step were seen by all at once?
     ScOnX86 = 1,
+    /// Does it behave on ARMv7 as if each step were seen by all at once?
     ScOnArmv7 = 2,
+    /// Does it behave on ARMv7 as it does on x86?
     X86OnArmv7 = 3,
+    /// Does it behave on ARMv7 as it does on ARMv8?
     Armv8OnArmv7 = 4,
 }
 
 impl Question {
+    /// Every question, by number.
     pub const ALL: [Question; 4] = [Question::ScOnX86, Question::ScOnArmv7, Question::X86OnArmv7, Question::Armv8OnArmv7];
+
+    fn name(self) -> &'static str {
+        match self {
+            Question::ScOnX86 => "sc-x86",
+            Question::ScOnArmv7 => "sc-armv7",
+            Question::X86OnArmv7 => "x86-armv7",
+            Question::Armv8OnArmv7 => "armv8-armv7",
+        }
+    }
 }
 
 impl From<Question> for u64 {
     fn from(question: Question) -> u64 {
         question as u64
+    }
+}
+
+impl TryFrom<u64> for Question {
+    type Error = UnknownQuestion;
+
+    fn try_from(number: u64) -> Result<Question, UnknownQuestion> {
+        number.to_string().parse()
+    }
+}
+
+impl FromStr for Question {
+    type Err = UnknownQuestion;
+
+    fn from_str(asked: &str) -> Result<Question, UnknownQuestion> {
+        let is_asked = |question: &Question| asked == question.name() || asked == u64::from(*question).to_string();
+        Question::ALL.into_iter().find(is_asked).ok_or_else(|| UnknownQuestion(asked.to_string()))
+    }
+}
+
+impl fmt::Display for Question {
+    fn fmt(&self, out: &mut fmt::Formatter<'_>) -> fmt::Result {
+        out.pad(self.name())
+    }
+}
+
+/// Something was asked that is no question. Its `Display` says what can be asked.
+///
+/// ```
+/// assert_eq!(
+///     nyekushiro::Question::try_from(5).unwrap_err().to_string(),
+///     "there is no question '5': ask 1 or sc-x86, 2 or sc-armv7, 3 or x86-armv7, 4 or armv8-armv7"
+/// );
+/// ```
+#[derive(Clone, Debug, PartialEq, Eq)]
+pub struct UnknownQuestion(String);
+
+impl fmt::Display for UnknownQuestion {
+    fn fmt(&self, out: &mut fmt::Formatter<'_>) -> fmt::Result {
+        let questions = Question::ALL.map(|question| format!("{} or {question}", u64::from(question)));
+        write!(out, "there is no question '{}': ask {}", self.0, questions.join(", "))
+    }
+}
+
+impl std::error::Error for UnknownQuestion {}
+
+#[cfg(test)]
+mod tests {
+    use super::*;
+
+    #[test]
+    fn is_read_from_its_number_or_its_name() {
+        for question in Question::ALL {
+            let number = u64::from(question);
+            assert_eq!(Question::try_from(number), Ok(question));
+            assert_eq!(number.to_string().parse(), Ok(question));
+            assert_eq!(question.to_string().parse(), Ok(question));
+        }
+    }
+
+    #[test]
+    fn is_read_from_nothing_else() {
+        for asked in ["", "0", "5", "01", "+1", " 1", "1 ", "SC-X86", "sc", "sc-x86 ", "SC on x86", "257"] {
+            assert_eq!(asked.parse::<Question>(), Err(UnknownQuestion(asked.to_string())));
+        }
+        for number in [0, 5, 257, u64::MAX] {
+            assert_eq!(Question::try_from(number), Err(UnknownQuestion(number.to_string())));
+        }
     }
 }

@@ -1,6 +1,7 @@
 //! The wrapper's words are those of tools/words.txt.
 
-use nyekushiro::{Question, Refusal, REFUSALS};
+use nyekushiro::raw;
+use nyekushiro::{Question, Reason, Refusal};
 
 struct Row {
     number: u64,
@@ -15,17 +16,24 @@ fn rows(what: &str) -> Vec<Row> {
     columns.map(|columns| Row { number: columns[1].parse().unwrap(), name: columns[2], words: columns[3] }).collect()
 }
 
-fn advice(number: u64) -> &'static str {
-    Refusal { number, place: 0 }.advice()
+fn refused(number: u64, place: u64) -> Refusal {
+    raw::Answer { kind: raw::Answer::REFUSED, first: number, second: place, count: 0 }.refusal().unwrap()
+}
+
+fn advice(reason: Reason) -> &'static str {
+    refused(reason.number(), 0).advice()
 }
 
 #[test]
 fn refusals() {
     let rows = rows("refusal");
-    assert_eq!(rows.len(), REFUSALS);
-    for Row { number, words, .. } in rows {
-        assert_eq!(Refusal { number, place: 0 }.to_string(), words);
-        assert!(!advice(number).is_empty());
+    assert_eq!(rows.iter().map(|row| row.number).collect::<Vec<_>>(), Reason::ALL.map(Reason::number));
+    for Row { number, name, words } in rows {
+        let said = match name {
+            "-" => format!("{words} (refusal {number})"),
+            place => format!("{words} (refusal {number}, {place} 5)"),
+        };
+        assert_eq!(refused(number, 5).to_string(), said);
     }
 }
 
@@ -33,12 +41,13 @@ fn refusals() {
 fn questions() {
     let rows = rows("question");
     assert_eq!(rows.len(), Question::ALL.len());
-    for (question, Row { number, words, .. }) in Question::ALL.into_iter().zip(rows) {
-        assert_eq!(
-            (u64::from(question), format!("{question:?}").to_lowercase()),
-            (number, words.replace(' ', "").to_lowercase())
+    for (question, Row { number, name, words }) in Question::ALL.into_iter().zip(rows) {
+        assert_eq!((u64::from(question), question.to_string().as_str()), (number, name));
+        assert_eq!(format!("{question:?}").to_lowercase(), words.replace(' ', "").to_lowercase());
+        assert!(
+            advice(Reason::Question).contains(&format!("{number} {words}")),
+            "the advice on refusal 1 names {number} {words}"
         );
-        assert!(advice(1).contains(&format!("{number} {words}")), "the advice on refusal 1 names {number} {words}");
     }
 }
 
@@ -48,6 +57,23 @@ fn kinds() {
     assert!(!rows.is_empty());
     for Row { number, name, .. } in rows {
         let kind = format!("{number} {name}");
-        assert!(advice(9).to_lowercase().contains(&kind), "the advice on refusal 9 names {kind}");
+        assert!(advice(Reason::Kind).to_lowercase().contains(&kind), "the advice on refusal 9 names {kind}");
+    }
+}
+
+/// Each routine of the fader alone is ROBUST, and together they are OPEN.
+#[test]
+fn no_advice_parts_what_belongs_together() {
+    for reason in Reason::ALL {
+        let advice = advice(reason);
+        assert!(!advice.is_empty() && !advice.contains("split"), "refusal {}: {advice}", reason.number());
+    }
+    for reason in [Reason::Nodes, Reason::Places] {
+        let advice = advice(reason);
+        assert!(
+            advice.contains("keep all routines that may share a cell in one listing"),
+            "refusal {}: {advice}",
+            reason.number()
+        );
     }
 }

@@ -1,0 +1,74 @@
+//! What people are told about writing a listing that is faithful to the firmware, shown by the judge.
+
+use inputs::{bytes, nodes, random_listing, sketch, Random, Record, LAST_CELL, NODES, NONE, READ, RMW, ROUTINES};
+use nyekushiro::{judge, read, Question};
+
+fn is_robust(question: Question, listing: &[u8]) -> bool {
+    judge(question, listing).unwrap().is_robust()
+}
+
+#[test]
+fn routines_that_share_a_cell_are_not_judged_apart() {
+    let (panel, mixing) = ("w1 w2", "r2 r1");
+    assert!(is_robust(Question::X86OnArmv7, &sketch(panel)));
+    assert!(is_robust(Question::X86OnArmv7, &sketch(mixing)));
+    assert!(!is_robust(Question::X86OnArmv7, &sketch(&format!("{panel}; {mixing}"))));
+}
+
+#[test]
+fn groups_that_share_no_cell_and_know_their_locations_may_be_parted() {
+    let mut random = Random::seeded(19);
+    let mut met = [0; 2];
+    for _ in 0..2000 {
+        let mut part = |odd| {
+            let nodes = random.below(20);
+            with_cells_of_its_own(&random_listing(&mut random, nodes), odd)
+        };
+        let (one, other) = (part(false), part(true));
+        let Some(whole) = joined(&one, &other) else { continue };
+        for question in Question::ALL {
+            let robust = is_robust(question, &whole);
+            assert_eq!(robust, is_robust(question, &one) && is_robust(question, &other));
+            met[robust as usize] += 1;
+        }
+    }
+    assert!(met.iter().all(|&count| count > 1000), "both answers are met: {met:?}");
+}
+
+#[test]
+fn exchange_that_may_fail_has_a_branch_without_it() {
+    let question = Question::ScOnX86;
+    // an RMW between the write and the read is a barrier
+    assert!(is_robust(question, &sketch("w1 u3 r2; w2 u3 r1")));
+    // the failing form: a plain node that leads to the RMW and to a read of the same cell
+    assert!(!is_robust(question, &sketch("w1 p>2,3 u3>4 r3 r2; w2 p>7,8 u3>9 r3 r1")));
+}
+
+fn records(listing: &[u8]) -> Vec<Record> {
+    (0..nodes(listing)).map(|node| Record::of(listing, node)).collect()
+}
+
+/// The same listing with odd or even locations alone, and none that is unknown.
+fn with_cells_of_its_own(listing: &[u8], odd: bool) -> Vec<u8> {
+    let mut records = records(listing);
+    for record in records.iter_mut().filter(|record| (READ..=RMW).contains(&record.kind)) {
+        let block = record.location & (LAST_CELL + 1);
+        record.location = block | ((record.location & (LAST_CELL / 2)).max(1) * 2 + odd as u16);
+    }
+    bytes(read(listing).unwrap().routines as u8, &records)
+}
+
+/// The routines of both, unless that is more than a listing may have.
+fn joined(one: &[u8], other: &[u8]) -> Option<Vec<u8>> {
+    let (routines, first) = (read(one).unwrap().routines as u8, nodes(one) as u8);
+    let moved = |successor| if successor == NONE { NONE } else { first + successor };
+    let mut records = records(one);
+    records.extend(self::records(other).into_iter().map(|record| Record {
+        routine: routines + record.routine,
+        first: moved(record.first),
+        second: moved(record.second),
+        ..record
+    }));
+    let routines = routines as usize + read(other).unwrap().routines;
+    (routines <= ROUTINES && records.len() <= NODES).then(|| bytes(routines as u8, &records))
+}
