@@ -1,12 +1,15 @@
 /* nyekushiro.h: the proved judge of memory fences, for C and C++.
  *
- * Link target/staticlib/libnyekushiro.a, which `rt staticlib nyekushiro` builds for x86-64. The rules are those of document 01;
- * every answer is proved to be the one that they give.
+ * What each service answers is proved to be what the rules (docs/RULES.md) give. The archive libnyekushiro.a is for x86-64 Linux.
+ * `tools/install PREFIX` puts it, this header and a pkg-config file under PREFIX; then
+ *
+ *     cc FILE.c $(PKG_CONFIG_PATH=PREFIX/lib/pkgconfig pkg-config --cflags --libs nyekushiro)
  *
  * Every service takes any bytes of any length and any question. What it asks of its caller:
  * - a pointer is not null, even where its length is 0;
  * - it points to at least as many bytes as its length says;
  * - a lent buffer overlaps no other argument.
+ * The deepest call measured took about 17 KiB of stack (docs/DECISIONS.md, "Stack"); no theorem bounds it.
  *
  * A refusal leaves every lent buffer as it was. Bytes of a lent buffer beyond what is said here keep their values.
  */
@@ -16,6 +19,11 @@
 #include <stddef.h>
 #include <stdint.h>
 
+#define NYEKUSHIRO_VERSION "1.0.0"
+#define NYEKUSHIRO_VERSION_MAJOR 1
+#define NYEKUSHIRO_VERSION_MINOR 0
+#define NYEKUSHIRO_VERSION_PATCH 0
+
 #ifdef __cplusplus
 extern "C" {
 #endif
@@ -23,8 +31,8 @@ extern "C" {
 /* What a service answers; the fields that its comment does not name are 0. */
 typedef struct {
     uint64_t kind;   /* one of enum nyekushiro_kind */
-    uint64_t first;  /* REFUSED: the refusal's number, 1 to 16 */
-    uint64_t second; /* REFUSED: its place, a node or an index of the map where the table names one, else 0 */
+    uint64_t first;  /* REFUSED: one of enum nyekushiro_refusal */
+    uint64_t second; /* REFUSED: its place, where one is named there, else 0 */
     uint64_t count;
 } nyekushiro_answer;
 
@@ -33,6 +41,26 @@ enum nyekushiro_kind {
     NYEKUSHIRO_ROBUST = 0,
     NYEKUSHIRO_OPEN = 1,
     NYEKUSHIRO_REFUSED = 2
+};
+
+/* Why a service refuses, and in brackets what its place is: a node of the listing, or an index of the map. */
+enum nyekushiro_refusal {
+    NYEKUSHIRO_REFUSED_QUESTION = 1,          /* question not 1 to 4 */
+    NYEKUSHIRO_REFUSED_HEADING = 2,           /* fewer than 7 bytes */
+    NYEKUSHIRO_REFUSED_MARK = 3,              /* mark wrong */
+    NYEKUSHIRO_REFUSED_VERSION = 4,           /* version not 1 */
+    NYEKUSHIRO_REFUSED_ROUTINES = 5,          /* F is 0 or over 16 */
+    NYEKUSHIRO_REFUSED_NODES = 6,             /* N over 128 */
+    NYEKUSHIRO_REFUSED_LENGTH = 7,            /* length not 7 + 6N */
+    NYEKUSHIRO_REFUSED_ROUTINE = 8,           /* node's routine not below F [node] */
+    NYEKUSHIRO_REFUSED_KIND = 9,              /* kind over 4 [node] */
+    NYEKUSHIRO_REFUSED_LOCATION = 10,         /* kind 0 or 4 with a location other than 0 [node] */
+    NYEKUSHIRO_REFUSED_SUCCESSOR = 11,        /* successor neither 255 nor below N, or in another routine [node] */
+    NYEKUSHIRO_REFUSED_SECOND_SUCCESSOR = 12, /* second successor without a first, or not larger than it [node] */
+    NYEKUSHIRO_REFUSED_MAP_LENGTH = 13,       /* map length not N */
+    NYEKUSHIRO_REFUSED_MAP_BYTE = 14,         /* map byte not 0 or 1 [index] */
+    NYEKUSHIRO_REFUSED_PLACES = 15,           /* N + places over 128 */
+    NYEKUSHIRO_REFUSED_BUFFER = 16            /* lent output buffer too short */
 };
 
 /* The questions. */
@@ -48,6 +76,24 @@ enum nyekushiro_room {
     NYEKUSHIRO_CHAIN_BUFFER = 258,
     NYEKUSHIRO_MAP_BUFFER = 128,
     NYEKUSHIRO_LISTING_BUFFER = 775
+};
+
+/* The kinds of nodes in a listing, whose format is docs/LISTING.md.
+ *
+ * An RMW always completes. A compare-and-swap may fail and then writes nothing: listed as an RMW it is taken for a barrier under
+ * question 1, where it is none. There is no kind for it; write a plain node with two successors, the RMW and a read of the same
+ * cell, which both lead on. */
+enum nyekushiro_node {
+    NYEKUSHIRO_NODE_PLAIN = 0,
+    NYEKUSHIRO_NODE_READ = 1,
+    NYEKUSHIRO_NODE_WRITE = 2,
+    NYEKUSHIRO_NODE_RMW = 3,
+    NYEKUSHIRO_NODE_FENCE = 4
+};
+
+enum nyekushiro_mark {
+    NYEKUSHIRO_UNKNOWN_LOCATION = 0, /* of an access: may be any cell */
+    NYEKUSHIRO_NO_SUCCESSOR = 255
 };
 
 /* Reads a listing. DONE: first = the number of nodes N, second = the number of routines F. */

@@ -1,11 +1,15 @@
 /* Case A from C: judge a listing, ask for a patch, write the patched listing, judge it again. */
-#include "nyekushiro.h"
-
 #include <stdio.h>
+
+#include <nyekushiro.h>
+
+enum { WRITE = NYEKUSHIRO_NODE_WRITE, READ = NYEKUSHIRO_NODE_READ, NONE = NYEKUSHIRO_NO_SUCCESSOR };
 
 static void say(nyekushiro_answer answer, const uint8_t *chain)
 {
-    if (answer.kind == NYEKUSHIRO_REFUSED) {
+    if (answer.kind == NYEKUSHIRO_REFUSED && answer.first == NYEKUSHIRO_REFUSED_QUESTION) {
+        printf("REFUSED: there is no such question\n");
+    } else if (answer.kind == NYEKUSHIRO_REFUSED) {
         printf("REFUSED %llu %llu\n", (unsigned long long)answer.first, (unsigned long long)answer.second);
     } else if (answer.kind == NYEKUSHIRO_ROBUST) {
         printf("ROBUST\n");
@@ -23,10 +27,10 @@ int main(void)
     /* 0 write x, 1 read y; 2 write y, 3 read x */
     const uint8_t listing[31] = {
         0x4F, 0x52, 0x44, 1, 0, 2, 4,
-        0, 2, 1, 0, 1, 255,
-        0, 1, 2, 0, 255, 255,
-        1, 2, 2, 0, 3, 255,
-        1, 1, 1, 0, 255, 255,
+        0, WRITE, 1, 0, 1, NONE,
+        0, READ, 2, 0, NONE, NONE,
+        1, WRITE, 2, 0, 3, NONE,
+        1, READ, 1, 0, NONE, NONE,
     };
     uint8_t chain[NYEKUSHIRO_CHAIN_BUFFER] = {0};
     uint8_t map[NYEKUSHIRO_MAP_BUFFER] = {0};
@@ -36,6 +40,7 @@ int main(void)
     printf("%llu nodes, %llu routines\n", (unsigned long long)size.first, (unsigned long long)size.second);
     say(nyekushiro_judge(NYEKUSHIRO_SC_ON_X86, listing, sizeof listing, chain, sizeof chain), chain);
     say(nyekushiro_judge(5, listing, sizeof listing, chain, sizeof chain), chain);
+    say(nyekushiro_judge(NYEKUSHIRO_SC_ON_X86, listing, sizeof listing - 1, chain, sizeof chain), chain);
 
     nyekushiro_answer proposal = nyekushiro_propose(NYEKUSHIRO_SC_ON_X86, listing, sizeof listing, map, sizeof map);
     printf("%llu places: %d %d %d %d\n", (unsigned long long)proposal.count, map[0], map[1], map[2], map[3]);

@@ -6,9 +6,9 @@
 
 #include "nyekushiro.h"
 
-enum { NODES = 128, HEADING = 7, RECORD = 6, LISTING = HEADING + RECORD * NODES, ROOM = 1 << 20, PAINT = 0xA5 };
+enum { NODES = NYEKUSHIRO_MAP_BUFFER, HEADING = 7, RECORD = 6, LISTING = NYEKUSHIRO_LISTING_BUFFER, ROOM = 1 << 20, PAINT = 0xA5 };
 
-static uint8_t listing[LISTING], map[NODES], chain[258], proposed[NODES], written[LISTING];
+static uint8_t listing[LISTING], map[NODES], chain[NYEKUSHIRO_CHAIN_BUFFER], proposed[NODES], written[LISTING];
 static size_t listing_length;
 static uint64_t question;
 static int service;

@@ -1,4 +1,5 @@
-//! Links the archive of the proved services. NYEKUSHIRO_ARCHIVE_DIR says where it stands; target/staticlib if it is not set.
+//! Links the archive of the proved services. NYEKUSHIRO_ARCHIVE_DIR says where it stands, as PREFIX/lib after `tools/install PREFIX`;
+//! target/staticlib if it is not set.
 
 use std::path::PathBuf;
 
@@ -10,7 +11,8 @@ fn main() {
     println!("cargo:rerun-if-changed={}", archive.display());
     if !archive.is_file() {
         eprintln!(
-            "no archive at {}: run `rt staticlib nyekushiro`, or set NYEKUSHIRO_ARCHIVE_DIR to the folder that has libnyekushiro.a",
+            "no archive at {}: run `rt staticlib nyekushiro`, or set NYEKUSHIRO_ARCHIVE_DIR to the folder that has libnyekushiro.a, \
+             as PREFIX/lib after `tools/install PREFIX`",
             archive.display()
         );
         std::process::exit(1);
