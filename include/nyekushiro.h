@@ -80,9 +80,9 @@ enum nyekushiro_room {
 
 /* The kinds of nodes in a listing, whose format is docs/LISTING.md.
  *
- * An RMW always completes. A compare-and-swap may fail and then writes nothing: listed as an RMW it is taken for a barrier under
- * question 1, where it is none. There is no kind for it; write a plain node with two successors, the RMW and a read of the same
- * cell, which both lead on. */
+ * An RMW always completes. A compare-and-swap that may fail is no barrier under question 1, and listed as an RMW it wrongly counts
+ * as one. Until there is a kind for it, write a plain node with two successors, the RMW and a read of the same cell, which both
+ * lead on; examples/src/may-fail.txt is one. */
 enum nyekushiro_node {
     NYEKUSHIRO_NODE_PLAIN = 0,
     NYEKUSHIRO_NODE_READ = 1,
