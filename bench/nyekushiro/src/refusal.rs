@@ -110,7 +110,7 @@ macro_rules! table {
         pub enum Reason {
             $(#[doc = concat!("Refusal ", $number, ": ", $words, ".")] $reason,)*
             /// A number that this wrapper does not know, from an archive that is newer.
-            // no panic, as for an unknown kind of answer: it is still true that the service refused and wrote nothing
+            // it needs no panic, as an unknown kind of answer does: that nothing was answered or written is true all the same
             Unknown(u64),
         }
 
