@@ -27,7 +27,7 @@ use Rattle.lines.specs.Text.{bytes, decimal}
 use Rattle.say.specs.Lines.{verdictLine, JudgedLine, JudgeLine}
 
 -- "4F 52 44 01 00 02 04 | 00 02 01 00 01 FF | 00 01 02 00 FF FF | 01 02 02 00 03 FF | 01 01 01 00 FF FF"
-abbrev listing : List ℕ
+abbrev pub listing : List ℕ
 listing =
     0x4F ∷ 0x52 ∷ 0x44 ∷ 0x01 ∷ 0x00 ∷ 0x02 ∷ 0x04
     ∷ 0x00 ∷ 0x02 ∷ 0x01 ∷ 0x00 ∷ 0x01 ∷ 0xFF
@@ -43,11 +43,11 @@ words : verdictLine verdict ≡ bytes "OPEN 0 1 2 0-1 2-3\n"
 unfolding decimal
 words = refl
 
-admitted : firstOf (askRules 1 listing) ≡ passed
+pub admitted : firstOf (askRules 1 listing) ≡ passed
 unfolding askRules wrongQuestion readRules headingRules wrongMark wrongF nodeRules wrongRoutine wrongKind wrongLocation wrongSuccessor astray wrongOrder
 admitted = refl
 
-nodes : nodesOf listing ≡ caseA
+pub nodes : nodesOf listing ≡ caseA
 unfolding nodesOf
 nodes = refl
 

@@ -22,7 +22,7 @@ use Rattle.patch.specs.Patching.{askRules}
 use Rattle.say.specs.Lines.{JudgedLine, JudgeLine, ProposedLine, ProposeLine, INPUT}
 
 -- ── Where a table refuses, what follows it does not matter ──────────────────
-abbrev Refuses : Refusal → Type 0
+abbrev pub Refuses : Refusal → Type 0
 Refuses passed = ⊥
 Refuses (refused k p) = Unit
 
@@ -91,22 +91,23 @@ unfolding askRules
 asked-refused q s h = firstOf-append (questionRules q) (readRules s) ∙ ap (orElse (firstOf (questionRules q))) (listing-refused s h)
 
 -- ── The cut ─────────────────────────────────────────────────────────────────
--- what is kept of a listing
-abbrev KEPT : ℕ
+-- what must be kept of a listing
+abbrev pub KEPT : ℕ
 KEPT = recordAt NODES + 1
 
--- of a line that does not look at a refused listing
-module _ (Line : Refusal → List ℕ → Type 0) (blind : (f : Refusal) (s t : List ℕ) → Refuses f → Line f s → Line f t) (q : ℕ) (s : List ℕ) where
+-- k bytes are kept, of a line that does not look at a refused listing
+module _ (Line : Refusal → List ℕ → Type 0) (blind : (f : Refusal) (s t : List ℕ) → Refuses f → Line f s → Line f t)
+    (q : ℕ) (s : List ℕ) (k : ℕ) (enough : KEPT ≤ k) where
   abbrev Of : List ℕ → Type 0
   Of t = Line (firstOf (askRules q t)) t
 
-  long : KEPT ≤ length s → Of (take KEPT s) ↔ Of s
+  long : k ≤ length s → Of (take k s) ↔ Of s
   long h =
-      let t = take KEPT s in
-      let size : length t ≡ KEPT = length-take-le KEPT s h in
+      let t = take k s in
+      let size : length t ≡ k = length-take-le k s h in
       let a = asked-refused q t (omega (arith, size)) in
       let b = asked-refused q s (omega (arith, h)) in
-      let same : refusalOf s ≡ refusalOf t = ap refusalOf (sym (take-append-drop KEPT s)) ∙ front t (drop KEPT s) (omega (arith, size)) in
+      let same : refusalOf s ≡ refusalOf t = ap refusalOf (sym (take-append-drop k s)) ∙ front t (drop k s) (omega (arith, size)) in
       let e : firstOf (askRules q t) ≡ firstOf (askRules q s) = a ∙ ap (orElse (firstOf (questionRules q))) (sym same) ∙ sym b in
       let refused-s = subst Refuses (sym b) (one-refuses (firstOf (questionRules q)) (refusalOf s) (refuses s)) in
       let refused-t = subst Refuses (sym e) refused-s in (
@@ -114,13 +115,13 @@ module _ (Line : Refusal → List ℕ → Type 0) (blind : (f : Refusal) (s t : 
         λ x. blind (firstOf (askRules q t)) s t refused-t (subst (λ (f : Refusal). Line f s) (sym e) x),
       )
 
-  cut : Of (take KEPT s) ↔ Of s
-  cut = of (leb KEPT (length s)) refl
+  pub cut : Of (take k s) ↔ Of s
+  cut = of (leb k (length s)) refl
     where
-      of : (b : Bool) → leb KEPT (length s) ≡ b → Of (take KEPT s) ↔ Of s
-      of true e = long (leb-true KEPT (length s) e)
+      of : (b : Bool) → leb k (length s) ≡ b → Of (take k s) ↔ Of s
+      of true e = long (leb-true k (length s) e)
       of false e =
-          let whole = take-all KEPT s (omega (arith, leb-false KEPT (length s) e)) in
+          let whole = take-all k s (omega (arith, leb-false k (length s) e)) in
           (subst Of whole, subst Of (sym whole))
 
 judge-blind : (q : ℕ) (line : List ℕ) (f : Refusal) (s t : List ℕ) → Refuses f → JudgedLine f q (nodesOf s) line → JudgedLine f q (nodesOf t) line
@@ -134,9 +135,9 @@ propose-blind q line (refused k p) s t r h = h
 -- THE FIRST BYTES DECIDE the judge program's line
 pub judge-cut : (input line : List ℕ) → JudgeLine (take INPUT input) line ↔ JudgeLine input line
 judge-cut [] line = (λ h. h, λ h. h)
-judge-cut (q ∷ s) line = cut (λ f t. JudgedLine f q (nodesOf t) line) (judge-blind q line) q s
+judge-cut (q ∷ s) line = cut (λ f t. JudgedLine f q (nodesOf t) line) (judge-blind q line) q s KEPT (omega arith)
 
 -- and the proposer's
 pub propose-cut : (input line : List ℕ) → ProposeLine (take INPUT input) line ↔ ProposeLine input line
 propose-cut [] line = (λ h. h, λ h. h)
-propose-cut (q ∷ s) line = cut (λ f t. ProposedLine f q t line) (propose-blind q line) q s
+propose-cut (q ∷ s) line = cut (λ f t. ProposedLine f q t line) (propose-blind q line) q s KEPT (omega arith)

@@ -45,7 +45,7 @@ written : (ps : List Ends) (rest : List ℕ) → pairsOf (length ps) (chainBytes
 written [] rest = refl
 written (p ∷ ps) rest = ap (λ (l : List ℕ). pair (p .0) (p .1) ++ l) (written ps rest)
 
-verdict-line : (v : Verdict) (r : JudgeAnswer) (old new : List ℕ)
+pub verdict-line : (v : Verdict) (r : JudgeAnswer) (old new : List ℕ)
     → judgeSays r ≡ verdictSays v → new ≡ filled (verdictBytes v) old → judgedLine r new ≡ verdictLine v
 verdict-line robust r old new e w = ap (λ (x : JudgeAnswer). judgedLine x new) (says-once r Robust e)
 verdict-line (opened p rest) r old new e w =

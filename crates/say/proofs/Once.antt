@@ -38,7 +38,7 @@ pub propose-line-once : (input line line′ : List ℕ) → ProposeLine input li
 propose-line-once [] line line′ h k = cc
 propose-line-once (q ∷ s) line line′ h k = proposed-line-once (firstOf (askRules q s)) q s line line′ h k
 
-lined-once : {line line′ old new new′ : List ℕ} {r r′ : ℕ} → line ≡ line′ → Lined line old new r → Lined line′ old new′ r′ → (r ≡ r′) × (new ≡ new′)
+pub lined-once : {line line′ old new new′ : List ℕ} {r r′ : ℕ} → line ≡ line′ → Lined line old new r → Lined line′ old new′ r′ → (r ≡ r′) × (new ≡ new′)
 lined-once e h k =
     let a = h .counts in
     let b = k .counts in

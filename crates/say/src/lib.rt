@@ -7,9 +7,11 @@ ghost use Rattle.io.specs.Counts.{Counts};
 ghost use Rattle.say.specs.Lines.{JudgeLinePromise, ProposeLinePromise};
 ghost use Rattle.say.specs.Lines.{INPUT as Lines·INPUT};
 pub use line::judged;
+pub use line::open;
 pub use line::proposed;
 pub use line::refusal;
 pub use line::refused;
+pub use line::unasked;
 use listing::Listing;
 use verdict::CHAIN_BYTES;
 

@@ -90,7 +90,7 @@ fn places(line: &mut [u8], at: usize, map: &[u8]) -> usize
     end
 }
 
-fn open(
+pub fn open(
     line: &mut [u8; LINE],
     first: usize,
     second: usize,
