@@ -18,12 +18,12 @@ use Rattle.lines.specs.Text.{bytes}
 use Rattle.say.specs.Lines.{refusalLine, verdictLine, Lined}
 
 -- ── The nodes named, as a map ───────────────────────────────────────────────
--- whether node i is among them; a node may be named twice
+-- whether node i is among them; "a node may be named twice"
 abbrev pub named : List ℕ → ℕ → Bool
 named [] i = false
 named (k ∷ ks) i = cond (eqb k i) true (named ks i)
 
--- a map has N bytes, and more where a node is named that the listing does not have: then its "map length" is "not N"
+-- a map has N bytes, but "a node that the listing does not have makes the map longer than N, which 13 refuses"
 abbrev pub mapLength : ℕ → List ℕ → ℕ
 mapLength n [] = n
 mapLength n (k ∷ ks) = mapLength (cond (ltb k n) n (suc k)) ks
@@ -37,7 +37,7 @@ abbrev pub mapOf : List ℕ → List ℕ → List ℕ
 mapOf s ks = drawn ks 0 (mapLength (countN s) ks)
 
 -- ── The line ────────────────────────────────────────────────────────────────
--- "it is accepted if the answer is ROBUST"; else the judge's line, in the old node numbers
+-- "ACCEPTED if the patched listing is ROBUST, else the judge program's line of it"
 abbrev pub acceptedLine : Verdict → List ℕ
 acceptedLine robust = bytes "ACCEPTED\n"
 acceptedLine (opened p rest) = verdictLine (opened p rest)
@@ -55,7 +55,7 @@ acceptRules q s map = questionRules q ++ patchRules s map
 abbrev pub NamedLine : ℕ → List ℕ → List ℕ → List ℕ → Type 0
 NamedLine q s ks line = PatchedLine (firstOf (acceptRules q s (mapOf s ks))) q (patched (nodesOf s) (marksOf (mapOf s ks))) line
 
--- one byte for the question, one for how many nodes are named, a byte for each, then the listing; "empty input is refusal 1"
+-- "one byte for the question, one for how many nodes are named, a byte for each, then the listing; there too empty input is refusal 1"
 abbrev pub AcceptLine : List ℕ → List ℕ → Type 0
 AcceptLine [] line = line ≡ refusalLine 1 0
 AcceptLine (q ∷ rest) line = NamedLine q (drop (byte rest 0) (drop 1 rest)) (take (byte rest 0) (drop 1 rest)) line

@@ -45,7 +45,7 @@ placesFrom i [] = []
 placesFrom i (true ∷ ms) = next i ++ placesFrom (suc i) ms
 placesFrom i (false ∷ ms) = placesFrom (suc i) ms
 
--- PROPOSED with the number of places and each place
+-- "PROPOSED with the number of places and each place"
 abbrev pub proposalLine : ℕ → List ℕ → List ℕ
 proposalLine n each = bytes "PROPOSED" ++ (next n ++ (each ++ bytes "\n"))
 
