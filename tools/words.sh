@@ -1,0 +1,119 @@
+# Read by ./nyekushiro: what an answer means, and what to do next. It has from there $root, $me (how it was called), what was asked
+# ($command, $q, $file, $nodes), and $named, which stands before what is said of one file among several.
+# shellcheck shell=sh disable=SC2154
+
+# A row of the word table: sets number, name and words.
+row() { # WHAT NUMBER-OR-NAME
+    while read -r what number name words; do
+        if [ "$what $number" = "$1 $2" ] || [ "$what $name" = "$1 $2" ]; then return; fi
+    done <"$root/tools/words.txt"
+    return 1
+}
+
+# ---- commands that can be pasted
+
+# A word as the shell takes it back.
+quoted() { # WORD
+    case $1 in
+    '' | *[!A-Za-z0-9_./:@%+,-]*) ;;
+    *)
+        printf %s "$1"
+        return
+        ;;
+    esac
+    rest=$1 before=''
+    while [ "$rest" != "${rest#*\'}" ]; do
+        before=$before${rest%%\'*}"'\\''"
+        rest=${rest#*\'}
+    done
+    printf "'%s'" "$before$rest"
+}
+
+pasted() { # WORDS..: this command with these words
+    printf %s "$me"
+    for word in "$@"; do printf ' %s' "$(quoted "$word")"; done
+    [ "$file" != - ] || printf ' # with the same listing on standard input'
+}
+
+# ---- refusals
+
+# Each routine of the fader alone is robust, both together are open: so a listing leaves out no routine that shares a cell.
+smaller='Keep all routines that may share a cell in one listing; take out plain nodes; only groups of routines that share no cell and'
+smaller="$smaller have no unknown location may be parted."
+
+remedy() { # NUMBER PLACE
+    case $1 in
+    1) echo 'ask 1, 2, 3 or 4, or one of sc-x86, sc-armv7, x86-armv7, armv8-armv7.' ;;
+    2 | 3 | 4) echo 'is this a listing? One starts with the bytes 4F 52 44 01 00 (ORD, version 1).' ;;
+    5) echo 'byte 5 is the routine count F; it must be 1 to 16.' ;;
+    6) echo "byte 6 is the node count N; it must be at most 128. $smaller" ;;
+    7) echo 'byte 6 says N nodes; the file must have 7 + 6N bytes. Was it cut off, or is something appended?' ;;
+    13) echo "a node is named that the listing has not. Name nodes 0 to N-1, which this lists: $(pasted show "$file")" ;;
+    15)
+        case $command in accept) few='Name fewer nodes. ' ;; *) few='' ;; esac
+        echo "with the fences it has over 128 nodes. $few$smaller"
+        ;;
+    *) echo "correct node $2: its six bytes start at byte $((7 + 6 * $2)) of the listing." ;;
+    esac
+}
+
+refused() { # NUMBER PLACE
+    row refusal "$1" || stop "$root/tools/words.txt has no refusal $1." "put the repository's own file back."
+    case $name in
+    -) say "${named}Refused by rule $1: $words." ;;
+    *) say "${named}Refused by rule $1 at $name $2: $words." ;;
+    esac
+    say "Next: $(remedy "$1" "$2")"
+}
+
+# ---- answers
+
+# Says what a program's line means, and ends with the exit status for it.
+meaning() { # THE LINE'S WORDS..
+    answer=$1
+    shift
+    case $answer in
+    OPEN) circle "$@" && return 1 ;;
+    PROPOSED) proposal "$@" ;;
+    ACCEPTED) acceptance "$nodes" ;;
+    REFUSED) refused "$@" && return 2 ;;
+    esac
+}
+
+circle() { # FIRST SECOND COUNT PAIRS..
+    case $nodes in '') nothing=Nothing ;; *) nothing='With these fences nothing' ;; esac
+    say "$named$nothing assures that others see node $1 before node $2. The circle in which that shows:"
+    from=$1
+    shift 3
+    walk="node ${1%-*}, then node ${1#*-}"
+    shift
+    for pair in "$@"; do walk="$walk; which may touch the same cell as node ${pair%-*}, then node ${pair#*-}"; done
+    say "$walk; which may touch the same cell as node $from."
+    say "Next: $(pasted propose "$q" "$file")"
+}
+
+proposal() { # COUNT PLACES..
+    say "$(places "$@")"
+    [ "$1" -gt 0 ] || return 0
+    shift
+    say "Next: $(pasted fence "$q" "$file")"
+    say "To judge other places: $(pasted accept "$q" "$file" "$@")"
+}
+
+places() { # COUNT PLACES..
+    count=$1
+    shift
+    case $count in
+    0) echo 'No fence is needed.' ;;
+    1) echo "A full fence after node $1." ;;
+    *) echo "A full fence after each of these $count nodes: $*." ;;
+    esac
+}
+
+acceptance() { # NODES
+    case $1 in
+    '') say 'The listing is robust as it is.' ;;
+    *\ *) say "With a full fence after each of these nodes the listing is robust: $1." ;;
+    *) say "With a full fence after node $1 the listing is robust." ;;
+    esac
+}
