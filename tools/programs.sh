@@ -3,6 +3,7 @@
 # shellcheck shell=sh disable=SC2154
 
 programs='judge propose fence show accept'
+loader='' # what find_kit finds, never what the environment has
 
 # What is said must not change what is answered: where standard error is full, the exit status still counts.
 say() { printf '%s\n' "$*" >&2 2>/dev/null || :; }
@@ -111,7 +112,7 @@ crate_count() {
 
 # A line for each crate proved since the last look.
 progress() {
-    for crate in $(sed -n 's/^rt: \([a-z_]*\) proved (.*/\1/p' "$log" | tail -n "+$((shown + 1))"); do
+    for crate in $(sed -n 's/^rt: \([A-Za-z0-9_]*\) proved (.*/\1/p' "$log" | tail -n "+$((shown + 1))"); do
         shown=$((shown + 1))
         say "proved: $crate ($shown of $crates)"
     done
