@@ -70,9 +70,9 @@ refused() { # NUMBER PLACE
 
 # Says what a program's line means, and ends with the exit status for it.
 meaning() { # THE LINE'S WORDS..
-    answer=$1
+    kind=$1
     shift
-    case $answer in
+    case $kind in
     OPEN) circle "$@" && return 1 ;;
     PROPOSED) proposal "$@" ;;
     ACCEPTED) acceptance "$nodes" ;;
