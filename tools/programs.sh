@@ -62,7 +62,8 @@ build() {
     log=$root/target/first-use.log begun=$root/target/first-use.begun proof=''
     say "First use: proving the judge and building its programs. This takes minutes, once. The log: $log"
     # made before the proof starts, so that a file changed meanwhile is newer
-    if ! { mkdir -p "$root/target" && cat "$kit/KIT-ID" >"$begun" && : >"$log"; } 2>/dev/null; then
+    if ! { mkdir -p "$root/target" && cat "$kit/KIT-ID" >"$begun" && true >"$log"; } 2>/dev/null; then
+        rm -f "$begun"
         complain "the folder $root/target cannot be written." 'make room there, or ask its owner for leave to write.' || return
     fi
     trap 'halt 129' HUP

@@ -48,10 +48,10 @@ remedy() { # NUMBER PLACE
     5) echo 'byte 5 is the routine count F; it must be 1 to 16.' ;;
     6) echo "byte 6 is the node count N; it must be at most 128. $smaller" ;;
     7) echo 'byte 6 says N nodes; the file must have 7 + 6N bytes. Was it cut off, or is something appended?' ;;
-    13) echo "a node is named that the listing has not. Name nodes 0 to N-1, which this lists: $(pasted show "$file")" ;;
+    13) printf '%s\n' "a node is named that the listing has not. Name nodes 0 to N-1, which this lists: $(pasted show "$file")" ;;
     15)
         case $command in accept) few='Name fewer nodes. ' ;; *) few='' ;; esac
-        echo "with the fences it has over 128 nodes. $few$smaller"
+        echo "the listing with its fences has over 128 nodes. $few$smaller"
         ;;
     *) echo "correct node $2: its six bytes start at byte $((7 + 6 * $2)) of the listing." ;;
     esac
