@@ -1,5 +1,5 @@
 # Read by ./nyekushiro: what an answer means, and what to do next. It has from there $root, $me (how it was called), what was asked
-# ($command, $q, $file, $nodes), and $named, which stands before what is said of one file among several.
+# ($command, $q, $file, $nodes, $listing), and $named, which stands before what is said of one file among several.
 # shellcheck shell=sh disable=SC2154
 
 # A row of the word table: sets number, name and words.
@@ -73,9 +73,10 @@ meaning() { # THE LINE'S WORDS..
     kind=$1
     shift
     case $kind in
+    ROBUST) exception ;;
     OPEN) circle "$@" && return 1 ;;
     PROPOSED) proposal "$@" ;;
-    ACCEPTED) acceptance "$nodes" ;;
+    ACCEPTED) acceptance "$nodes" && exception ;;
     REFUSED) refused "$@" && return 2 ;;
     esac
 }
@@ -116,4 +117,24 @@ acceptance() { # NODES
     *\ *) say "With a full fence after each of these nodes the listing is robust: $1." ;;
     *) say "With a full fence after node $1 the listing is robust." ;;
     esac
+}
+
+# What ROBUST leaves out, said where it can matter.
+exception() {
+    # shellcheck disable=SC2086  # a word a byte
+    vague $listing || return 0
+    say "${named}Note: it has unknown locations or blocks. A circle that one pair closes with copies of itself alone is left out by the"
+    say 'rules, so list a routine that may be called with swapped arguments twice, as docs/LISTING.md says.'
+}
+
+# Whether some access has an unknown location or a block.
+vague() { # OCTAL..: a listing's bytes
+    [ $# -lt 7 ] || shift 7
+    while [ $# -ge 6 ]; do
+        case $2-$3$4 in
+        00[123]-000000 | 00[123]-???[23]??) return 0 ;;
+        esac
+        shift 6
+    done
+    return 1
 }

@@ -103,6 +103,7 @@ fn judge_named(question: u64, nodes: &[u8], bytes: &[u8], line: &mut [u8; LINE])
 {
     let mut map = [0u8; NAMES];
     draw(nodes, &mut map);
+    // byte 6 is N; a listing too short to have it is refused all the same
     let length = map_length(byte_at(bytes, 6), nodes);
     let mut chain = [0u8; CHAIN_BYTES];
     let answer = patch::judge_patch(question, bytes, &map[..length], &mut chain);
