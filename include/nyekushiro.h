@@ -1,6 +1,7 @@
 /* nyekushiro.h: the proved judge of memory fences, for C and C++.
  *
  * What each service answers is proved to be what the rules (docs/RULES.md) give. The archive libnyekushiro.a is for x86-64 Linux.
+ * docs/ and examples/ are those of the repository.
  * `tools/install PREFIX` puts it, this header and a pkg-config file under PREFIX; then
  *
  *     cc FILE.c $(PKG_CONFIG_PATH=PREFIX/lib/pkgconfig pkg-config --cflags --libs nyekushiro)
@@ -101,7 +102,8 @@ nyekushiro_answer nyekushiro_read(const uint8_t *listing, size_t listing_len);
 
 /* Judges a listing. ROBUST, or OPEN: first and second = the nodes of the first failing pair, count = the number of pairs in its
  * chain, which is put as two bytes a pair at the start of `chain`. ROBUST writes nothing.
- * `chain` must have 258 bytes, also where the answer is ROBUST. */
+ * `chain` must have 258 bytes, also where the answer is ROBUST. ROBUST leaves out a circle that one pair closes with copies of
+ * itself alone: where a location is unknown or a block, list that routine twice (docs/LISTING.md). */
 nyekushiro_answer nyekushiro_judge(uint64_t question, const uint8_t *listing, size_t listing_len,
                                    uint8_t *chain, size_t chain_len);
 

@@ -75,7 +75,7 @@ meaning() { # THE LINE'S WORDS..
     case $kind in
     ROBUST) exception ;;
     OPEN) circle "$@" && return 1 ;;
-    PROPOSED) proposal "$@" ;;
+    PROPOSED) proposal "$@" && exception ;;
     ACCEPTED) acceptance "$nodes" && exception ;;
     REFUSED) refused "$@" && return 2 ;;
     esac
@@ -105,7 +105,7 @@ places() { # COUNT PLACES..
     count=$1
     shift
     case $count in
-    0) echo 'No fence is needed.' ;;
+    0) echo 'By the rules no fence is needed.' ;;
     1) echo "A full fence after node $1." ;;
     *) echo "A full fence after each of these $count nodes: $*." ;;
     esac
@@ -119,12 +119,12 @@ acceptance() { # NODES
     esac
 }
 
-# What ROBUST leaves out, said where it can matter.
+# What the rules leave out, said where it can matter.
 exception() {
     # shellcheck disable=SC2086  # a word a byte
     vague $listing || return 0
-    say "${named}Note: it has unknown locations or blocks. A circle that one pair closes with copies of itself alone is left out by the"
-    say 'rules, so list a routine that may be called with swapped arguments twice, as docs/LISTING.md says.'
+    say "${named}Note: it has unknown locations or blocks, and the rules leave out a circle that one pair closes with copies of itself"
+    say 'alone. So list each routine that has such a location twice, as docs/LISTING.md says.'
 }
 
 # Whether some access has an unknown location or a block.

@@ -25,7 +25,8 @@ pub struct Size {
 /// ```
 #[derive(Clone, Debug, PartialEq, Eq)]
 pub enum Answer {
-    /// No pair fails.
+    /// No pair fails. Left out is a circle that one pair closes with copies of itself alone: where a location is unknown or a block,
+    /// list that routine twice (docs/LISTING.md).
     Robust,
     /// A pair fails: the rules do not assure that others see its nodes in order.
     Open {

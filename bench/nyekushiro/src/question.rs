@@ -16,9 +16,9 @@ use std::str::FromStr;
 #[derive(Clone, Copy, Debug, PartialEq, Eq, Hash)]
 #[non_exhaustive]
 pub enum Question {
-    /// Does it behave on x86 as if each step were seen by all at once?
+    /// Does it behave on x86 as if all steps came one after another, each thread's in its order?
     ScOnX86 = 1,
-    /// Does it behave on ARMv7 as if each step were seen by all at once?
+    /// Does it behave on ARMv7 as if all steps came one after another, each thread's in its order?
     ScOnArmv7 = 2,
     /// Does it behave on ARMv7 as it does on x86?
     X86OnArmv7 = 3,
