@@ -5,14 +5,12 @@ ghost use Prim.Native.Nat.{_≤_, _<_, min};
 ghost use lib.ListN.{length};
 ghost use Rattle.io.specs.Counts.{Counts};
 ghost use Rattle.listing.specs.Bytes.{byte};
-ghost use Rattle.say.specs.Lines.{Lined};
 ghost use Rattle.acceptance.specs.Accept.{mapLength, AcceptLinePromise};
 ghost use Rattle.acceptance.specs.Accept.{INPUT as Accept·INPUT};
-ghost use Rattle.acceptance.specs.Inner.Naming.{Drawn, answerLine, NamedLined};
+ghost use Rattle.acceptance.specs.Inner.Naming.{Drawn, NamedLined};
 use listing::Listing;
 use say::LINE;
 use verdict::CHAIN_BYTES;
-use verdict::JudgeAnswer;
 
 // A question, a count, as many nodes as it can count, the longest listing, and one byte more:
 // an input that is cut there has the same line (proofs/Cut.antt).
@@ -82,21 +80,6 @@ fn draw(nodes: &[u8], map: &mut [u8])
     }
 }
 
-// The line of an answer.
-fn put_answer(line: &mut [u8; LINE], answer: JudgeAnswer, chain: &[u8; CHAIN_BYTES]) -> usize
-    ensures { λ r. ⌜ Lined (answerLine answer (now (chain .entry))) (now (line .entry)) (now (line .exit)) r ⌝ }
-{
-    match answer {
-        JudgeAnswer::Robust => lines::words(line, 0, b"ACCEPTED\n"),
-        JudgeAnswer::Refused { number, place } => say::refused(line, number, place),
-        JudgeAnswer::Open {
-            first,
-            second,
-            count,
-        } => say::open(line, first, second, count, chain),
-    }
-}
-
 // The line of a question, the nodes named, and the listing.
 fn judge_named(question: u64, nodes: &[u8], bytes: &[u8], line: &mut [u8; LINE]) -> usize
     ensures { λ r. ⌜ NamedLined question (now (bytes .entry)) (now (nodes .entry)) (now (line .entry)) (now (line .exit)) r ⌝ }
@@ -107,7 +90,7 @@ fn judge_named(question: u64, nodes: &[u8], bytes: &[u8], line: &mut [u8; LINE])
     let length = map_length(byte_at(bytes, 6), nodes);
     let mut chain = [0u8; CHAIN_BYTES];
     let answer = patch::judge_patch(question, bytes, &map[..length], &mut chain);
-    put_answer(line, answer, &chain)
+    say::told(line, b"ACCEPTED\n", answer, &chain)
 }
 
 // The acceptor's line of its whole input, and how long it is.

@@ -4,7 +4,7 @@ ghost use lib.ListN.{length};
 ghost use Rattle.io.specs.Counts.{Counts};
 ghost use Rattle.lines.specs.Inner.Put.{Put};
 ghost use Rattle.say.specs.Lines.{refusalWords, refusalLine, openLine, proposalLine, Lined};
-ghost use Rattle.say.specs.Inner.Answers.{pairAt, pairsOf, placeOf, placesOf, judgedLine, proposedLine};
+ghost use Rattle.say.specs.Inner.Answers.{pairAt, pairsOf, placeOf, placesOf, toldLine, judgedLine, proposedLine};
 use crate::LINE;
 use listing::Listing;
 use patch::ProposeAnswer;
@@ -90,7 +90,7 @@ fn places(line: &mut [u8], at: usize, map: &[u8]) -> usize
     end
 }
 
-pub fn open(
+fn open(
     line: &mut [u8; LINE],
     first: usize,
     second: usize,
@@ -107,13 +107,19 @@ pub fn open(
     lines::words(line, end, b"\n")
 }
 
-// The judge's line.
-pub fn judged(line: &mut [u8; LINE], answer: JudgeAnswer, chain: &[u8; CHAIN_BYTES]) -> usize
-    ensures { λ r. ⌜ Lined (judgedLine answer (now (chain .entry))) (now (line .entry)) (now (line .exit)) r ⌝ }
+// The line of what judging answers, with the words for ROBUST.
+pub fn told(
+    line: &mut [u8; LINE],
+    robust: &[u8],
+    answer: JudgeAnswer,
+    chain: &[u8; CHAIN_BYTES],
+) -> usize
+    requires { ⌜ length (now robust) ≤ 1000 ⌝ }
+    ensures { λ r. ⌜ Lined (toldLine (now (robust .entry)) answer (now (chain .entry))) (now (line .entry)) (now (line .exit)) r ⌝ }
     ensures { λ r. ⌜ Counts r (now (line .exit)) ⌝ }
 {
     match answer {
-        JudgeAnswer::Robust => lines::words(line, 0, b"ROBUST\n"),
+        JudgeAnswer::Robust => lines::words(line, 0, robust),
         JudgeAnswer::Refused { number, place } => refused(line, number, place),
         JudgeAnswer::Open {
             first,
@@ -121,6 +127,14 @@ pub fn judged(line: &mut [u8; LINE], answer: JudgeAnswer, chain: &[u8; CHAIN_BYT
             count,
         } => open(line, first, second, count, chain),
     }
+}
+
+// The judge's line.
+pub fn judged(line: &mut [u8; LINE], answer: JudgeAnswer, chain: &[u8; CHAIN_BYTES]) -> usize
+    ensures { λ r. ⌜ Lined (judgedLine answer (now (chain .entry))) (now (line .entry)) (now (line .exit)) r ⌝ }
+    ensures { λ r. ⌜ Counts r (now (line .exit)) ⌝ }
+{
+    told(line, b"ROBUST\n", answer, chain)
 }
 
 fn offered(line: &mut [u8; LINE], count: usize, map: &[u8; Listing::NODES]) -> usize

@@ -49,12 +49,15 @@ slice-aggregate-judge-patch-2 c = search needs
 judge-patch-requires : tie.Need-judge-patch-requires
 judge-patch-requires c κs = search needs
 
-put-answer-requires : tie.Need-put-answer-requires
-put-answer-requires c κs = search needs
+slice-aggregate-told : tie.Need-slice-aggregate-told
+slice-aggregate-told c = search needs
+
+told-requires : tie.Need-told-requires
+told-requires c κs = search needs
 
 returns : tie.Need-returns
 returns c =
-    let j = c .before .before .before .before in
+    let j = c .before .before .before .before .before in
     let l = j .before .before .before in
     let s = start (l .before .before .before) in
     let bytes = now (s .args .bytes) in
@@ -62,7 +65,7 @@ returns c =
     let size = l .map-length .ensures .0 ∙ ap (λ (n : ℕ). mapLength n nodes) (l .before .byte-at .ensures .0) in
     let map = drawn-map nodes _ _ (long l) (l .before .before .before .draw .ensures) ∙ ap (drawn nodes 0) size in
     let says = named-line (s .args .question) bytes nodes _ _ _ (j .judge-patch .result) map (omega arith) (j .judge-patch .ensures) in
-    record { line = _; says = says; lined = c .put-answer .ensures }
+    record { line = _; says = says; lined = c .told .ensures .0 }
 
 pub judge-named-spec : {M : Type 1} → statement M
 judge-named-spec =
@@ -76,5 +79,6 @@ judge-named-spec =
     slice-aggregate-judge-patch
     slice-aggregate-judge-patch-2
     judge-patch-requires
-    put-answer-requires
+    slice-aggregate-told
+    told-requires
     returns)

@@ -5,11 +5,10 @@ use Prim.Native.Nat.{ℕ, _<_}
 use lib.ListN.{length}
 use Rattle.listing.specs.Bytes.{byte}
 use Rattle.verdict.specs.declared.JudgeAnswer.{JudgeAnswer}
-use Rattle.verdict.specs.declared.JudgeAnswer.the-variants.{Robust, Open, Refused}
 use Rattle.patch.specs.Patching.{mapByte}
 use Rattle.lines.specs.Text.{bytes}
-use Rattle.say.specs.Lines.{refusalLine, openLine, Lined}
-use Rattle.say.specs.Inner.Answers.{pairsOf}
+use Rattle.say.specs.Lines.{Lined}
+use Rattle.say.specs.Inner.Answers.{toldLine}
 use Rattle.acceptance.specs.Accept.{named, NamedLine}
 
 -- each byte of the map says whether its node is named
@@ -18,9 +17,7 @@ pub record Drawn (ks map : List ℕ) : Type 0 where
 
 -- the line of an answer and the chain written beside it
 abbrev pub answerLine : JudgeAnswer → List ℕ → List ℕ
-answerLine Robust chain = bytes "ACCEPTED\n"
-answerLine (Open a b n) chain = openLine a b n (pairsOf n chain)
-answerLine (Refused k p) chain = refusalLine k p
+answerLine = toldLine (bytes "ACCEPTED\n")
 
 -- the line of a question, a listing's bytes and the nodes named stands in the buffer
 pub record NamedLined (q : ℕ) (s ks old new : List ℕ) (r : ℕ) : Type 0 where

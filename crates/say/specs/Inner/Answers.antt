@@ -22,10 +22,14 @@ pairsOf (suc n) [] = []
 pairsOf (suc n) (a ∷ []) = []
 pairsOf (suc n) (a ∷ b ∷ chain) = pair a b ++ pairsOf n chain
 
+-- the line of what judging answers and the chain written beside it, with the words for ROBUST
+abbrev pub toldLine : List ℕ → JudgeAnswer → List ℕ → List ℕ
+toldLine robust judging.Robust chain = robust
+toldLine robust (judging.Open a b n) chain = openLine a b n (pairsOf n chain)
+toldLine robust (judging.Refused k p) chain = refusalLine k p
+
 abbrev pub judgedLine : JudgeAnswer → List ℕ → List ℕ
-judgedLine judging.Robust chain = bytes "ROBUST\n"
-judgedLine (judging.Open a b n) chain = openLine a b n (pairsOf n chain)
-judgedLine (judging.Refused k p) chain = refusalLine k p
+judgedLine = toldLine (bytes "ROBUST\n")
 
 -- one place, where a map's byte is 1
 abbrev pub placeOf : ℕ → ℕ → List ℕ

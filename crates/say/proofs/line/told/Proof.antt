@@ -1,23 +1,20 @@
--- `say::judged` meets its contract.
+-- `say::told` meets its contract.
 use borrow.Author.Needs.{needs}
 use mathlib.Core.List.{List}
 use Prim.Native.Nat.{ℕ}
 use native.Mathlib.Omega.{arith}
 use denote.Ref.{now}
 use Rattle.verdict.specs.declared.JudgeAnswer.{JudgeAnswer}
-use Rattle.say.specs.Inner.Answers.{judgedLine}
+use Rattle.say.specs.Inner.Answers.{toldLine}
 use Rattle.say.proofs.Lining.{lined, lined-as, line-counts}
-use Rattle.say.proofs.line.judged.Statement.{statement}
-use Rattle.say.proofs.line.judged.Tie as tie
+use Rattle.say.proofs.line.told.Statement.{statement}
+use Rattle.say.proofs.line.told.Tie as tie
 
 abbrev lineOf : tie.Start → JudgeAnswer → List ℕ
-lineOf s answer = judgedLine answer (now (s .args .chain))
+lineOf s answer = toldLine (now (s .args .robust)) answer (now (s .args .chain))
 
 enum-told : tie.Need-enum-told
 enum-told c = search needs
-
-slice-aggregate-words : tie.Need-slice-aggregate-words
-slice-aggregate-words c = search needs
 
 words-requires : tie.Need-words-requires
 words-requires c κs = search needs
@@ -36,26 +33,25 @@ open-requires c κs = search needs
 
 returns : tie.Need-returns
 returns c =
-    let line = lined-as (lineOf (c .before .before .before .before .before)) (c .before .before .before .enum-told .given .1)
+    let line = lined-as (lineOf (c .before .before .before .before .before)) (c .before .before .enum-told .given .1)
     (lined (c .words .ensures) (omega (arith, c .words .ensures .goesOn))) in
     (line, line-counts line)
 
 returns-2 : tie.Need-returns-2
 returns-2 c =
-    let line = lined-as (lineOf (c .before .before .before .before .before)) (c .before .before .before .answer .given .1) (c .refused .ensures .0) in
+    let line = lined-as (lineOf (c .before .before .before .before .before .before)) (c .before .before .before .answer .given .1) (c .refused .ensures .0) in
     (line, line-counts line)
 
 returns-3 : tie.Need-returns-3
 returns-3 c =
-    let line = lined-as (lineOf (c .before .before .before .before .before)) (c .before .before .before .answer2 .given .1) (c .«open» .ensures) in
+    let line = lined-as (lineOf (c .before .before .before .before .before .before)) (c .before .before .before .answer2 .given .1) (c .«open» .ensures) in
     (line, line-counts line)
 
-pub judged-spec : {M : Type 1} → statement M
-judged-spec =
+pub told-spec : {M : Type 1} → statement M
+told-spec =
     tie.close
     (tie.spec
     enum-told
-    slice-aggregate-words
     words-requires
     enum-known-answer
     refused-requires
