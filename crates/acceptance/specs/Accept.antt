@@ -33,11 +33,12 @@ abbrev pub drawn : List ℕ → ℕ → ℕ → List ℕ
 drawn ks i zero = []
 drawn ks i (suc n) = mapByte (named ks i) ∷ drawn ks (suc i) n
 
+-- "The patch is a fence after each node named", as the map of the listing s
 abbrev pub mapOf : List ℕ → List ℕ → List ℕ
 mapOf s ks = drawn ks 0 (mapLength (countN s) ks)
 
 -- ── The line ────────────────────────────────────────────────────────────────
--- "ACCEPTED if the patched listing is ROBUST, else the judge program's line of it"
+-- "ACCEPTED if the patched listing is ROBUST, and the judge program's line of it if it is OPEN"
 abbrev pub acceptedLine : Verdict → List ℕ
 acceptedLine robust = bytes "ACCEPTED\n"
 acceptedLine (opened p rest) = verdictLine (opened p rest)
@@ -47,7 +48,7 @@ abbrev pub PatchedLine : Refusal → ℕ → Listing → List ℕ → Type 0
 PatchedLine passed q L line = (v : Verdict) × Judged q L v × (line ≡ acceptedLine v)
 PatchedLine (refused k p) q L line = line ≡ refusalLine k p
 
--- refused by 1, then 2 to 12, then 13 to 15
+-- "refused by 1, then 2 to 12, then 13 to 15"
 abbrev pub acceptRules : ℕ → List ℕ → List ℕ → List Rule
 acceptRules q s map = questionRules q ++ patchRules s map
 
