@@ -20,9 +20,9 @@
 #include <stddef.h>
 #include <stdint.h>
 
-#define NYEKUSHIRO_VERSION "1.0.0"
+#define NYEKUSHIRO_VERSION "1.1.0"
 #define NYEKUSHIRO_VERSION_MAJOR 1
-#define NYEKUSHIRO_VERSION_MINOR 0
+#define NYEKUSHIRO_VERSION_MINOR 1
 #define NYEKUSHIRO_VERSION_PATCH 0
 
 #ifdef __cplusplus
@@ -44,7 +44,7 @@ enum nyekushiro_kind {
     NYEKUSHIRO_REFUSED = 2
 };
 
-/* Why a service refuses, and in brackets what its place is: a node of the listing, or an index of the map. */
+/* Why a service refuses, and in brackets what its place is: a node of the listing, an index of the map, or a byte of the text, or its length. */
 enum nyekushiro_refusal {
     NYEKUSHIRO_REFUSED_QUESTION = 1,          /* question not 1 to 4 */
     NYEKUSHIRO_REFUSED_HEADING = 2,           /* fewer than 7 bytes */
@@ -61,7 +61,8 @@ enum nyekushiro_refusal {
     NYEKUSHIRO_REFUSED_MAP_LENGTH = 13,       /* map length not N */
     NYEKUSHIRO_REFUSED_MAP_BYTE = 14,         /* map byte not 0 or 1 [index] */
     NYEKUSHIRO_REFUSED_PLACES = 15,           /* N + places over 128 */
-    NYEKUSHIRO_REFUSED_BUFFER = 16            /* lent output buffer too short */
+    NYEKUSHIRO_REFUSED_BUFFER = 16,           /* lent output buffer too short */
+    NYEKUSHIRO_REFUSED_TEXT = 17              /* bad text [byte] */
 };
 
 /* The questions. */
@@ -83,7 +84,7 @@ enum nyekushiro_room {
  *
  * An RMW always completes. A compare-and-swap that may fail is no barrier under question 1, and listed as an RMW it wrongly counts
  * as one. Until there is a kind for it, write a plain node with two successors, the RMW and a read of the same cell, which both
- * lead on; examples/src/may-fail.txt is one. */
+ * lead on; examples/may-fail.txt is one. */
 enum nyekushiro_node {
     NYEKUSHIRO_NODE_PLAIN = 0,
     NYEKUSHIRO_NODE_READ = 1,
@@ -121,6 +122,12 @@ nyekushiro_answer nyekushiro_propose(uint64_t question, const uint8_t *listing, 
  * `out` must have that many. */
 nyekushiro_answer nyekushiro_write(const uint8_t *listing, size_t listing_len, const uint8_t *map, size_t map_len,
                                    uint8_t *out, size_t out_len);
+
+/* Reads a typed text, parts `routine { block }` (docs/LISTING.md), and writes its listing. DONE: count = its length, 7 + 6N, and
+ * so many bytes at the start of `out` are it. `out` must have that many.
+ * REFUSED by NYEKUSHIRO_REFUSED_TEXT: second = the first byte of the first word that can't stand there, or text_len if the text
+ * breaks off; then by _ROUTINES if it has no words or more than 16 parts, by _NODES and by _BUFFER. */
+nyekushiro_answer nyekushiro_text(const uint8_t *text, size_t text_len, uint8_t *out, size_t out_len);
 
 #ifdef __cplusplus
 }

@@ -1,17 +1,27 @@
-# Read by ./nyekushiro: reads and writes listings so that nothing is lost.
+# Read by ./nyekushiro: reads listings and texts, and writes listings so that nothing is lost.
 # shellcheck shell=sh disable=SC2034,SC2154
 
-# Sets listing to a file's bytes as octal numbers, or says why not.
+# Sets content to a file's bytes as octal numbers, one more than the longest text has at the most, or says why not.
 take() { # FILE
     if [ "$1" = - ]; then
-        listing=$(octal - 2>/dev/null) || complain 'standard input cannot be read.' 'name the file of the listing instead.'
+        content=$(octal - "$((longest + 1))" 2>/dev/null) || complain 'standard input cannot be read.' 'name the file instead.'
     elif [ ! -e "$1" ]; then
-        complain "there is no file '$1'." "check the path, or try $(quoted "$root/examples/fader.ord")."
+        complain "there is no file '$1'." "check the path, or try $(quoted "$root/examples/fader.txt")."
     elif [ -d "$1" ]; then
-        complain "'$1' is a folder." "name one listing in it, as $(quoted "$root/examples/fader.ord")."
-    elif ! listing=$(octal "$1" 2>/dev/null); then
+        complain "'$1' is a folder." "name one file in it, as $(quoted "$root/examples/fader.txt")."
+    elif ! content=$(octal "$1" "$((longest + 1))" 2>/dev/null); then
         complain "the file '$1' cannot be read." 'ask its owner for leave to read it.'
     fi
+}
+
+# Whether content is a listing and no text: it starts with the mark ORD, or has a zero byte. Sets listing.
+listed() {
+    case $content in
+    ' 117 122 104'* | *' 000'*) listing=$content ;;
+    *) return 1 ;;
+    esac
+    # od writes 16 bytes a line, and no program reads more than 2048
+    [ "${#content}" -lt 9000 ] || listing=$(printf '%s\n' "$content" 2>/dev/null | head -n 128)
 }
 
 # Whether these bytes are as many as a listing's heading says.
@@ -22,6 +32,12 @@ whole() { # OCTAL..
 no_folder() { # OUT HOW-TO-NAME-ANOTHER
     if [ -d "$1" ] || [ "$1" != "${1%/}" ]; then complain "'$1' is a folder." "name a file in it: $2"; fi
 }
+
+# Whether what is read, - for standard input, and OUT are one file.
+same_file() { # FILE OUT
+    case $1 in -) set -- /dev/stdin "$2" ;; esac
+    [ "$2" != - ] && [ "$(readlink -f -- "$1")" = "$(readlink -f -- "$2")" ]
+} 2>/dev/null
 
 # Writes bytes to a file, or leaves it and its folder as they were. A device or a pipe has no bytes to keep and is written straight.
 # A path in /dev or /proc may be another file to each process.

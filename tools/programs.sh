@@ -2,7 +2,7 @@
 # missing or older than their crates, and runs them.
 # shellcheck shell=sh disable=SC2154
 
-programs='judge propose fence show accept'
+programs='judge propose fence show accept typed'
 loader='' # what find_kit finds, never what the environment has
 
 # What is said must not change what is answered: where standard error is full, the exit status still counts.
@@ -142,9 +142,10 @@ run() { # PROGRAM, its input on standard input
 
 # A shell variable holds no zero byte, so bytes are kept as octal numbers of three digits.
 
-# A file's bytes, - for standard input. The programs read fewer than 2048, and answer a longer input as if it were cut off there.
-octal() { # FILE
-    od -An -v -to1 -N 2048 -- "$1"
+# A file's bytes, - for standard input, at most MOST. Of a listing the programs read fewer than 2048, and answer a longer one as if it
+# were cut off there.
+octal() { # FILE [MOST]
+    od -An -v -to1 -N "${2-2048}" -- "$1"
 }
 
 octal_of() { # NUMBERS..

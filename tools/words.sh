@@ -1,5 +1,5 @@
 # Read by ./nyekushiro: what an answer means, and what to do next. It has from there $root, $me (how it was called), what was asked
-# ($command, $q, $file, $nodes, $listing), and $named, which stands before what is said of one file among several.
+# ($command, $q, $file, $nodes, $form, $listing), and $named, which stands before what is said of one file among several.
 # shellcheck shell=sh disable=SC2154
 
 # A row of the word table: sets number, name and words.
@@ -32,19 +32,22 @@ quoted() { # WORD
 pasted() { # WORDS..: this command with these words
     printf %s "$me"
     for word in "$@"; do printf ' %s' "$(quoted "$word")"; done
-    [ "$file" != - ] || printf ' # with the same listing on standard input'
+    [ "$file" != - ] || printf ' # with the same standard input'
 }
 
 # ---- refusals
 
 # Each routine of the fader alone is robust, both together are open: so a listing leaves out no routine that shares a cell.
-smaller='Keep all routines that may share a cell in one listing; take out plain nodes; only groups of routines that share no cell and'
-smaller="$smaller have no unknown location may be parted."
+parted='only groups of routines that share no cell and have no unknown location may be parted.'
+smaller="Keep all routines that may share a cell in one listing; take out plain nodes; $parted"
 
 remedy() { # NUMBER PLACE
     case $1 in
     1) echo 'ask 1, 2, 3 or 4, or one of sc-x86, sc-armv7, x86-armv7, armv8-armv7.' ;;
-    2 | 3 | 4) echo 'is this a listing? One starts with the bytes 4F 52 44 01 00 (ORD, version 1).' ;;
+    2 | 3 | 4)
+        echo 'is this a listing? One starts with the bytes 4F 52 44 01 00 (ORD, version 1). A typed text has no zero byte: save it as plain'
+        echo 'text, not as UTF-16.'
+        ;;
     5) echo 'byte 5 is the routine count F; it must be 1 to 16.' ;;
     6) echo "byte 6 is the node count N; it must be at most 128. $smaller" ;;
     7) echo 'byte 6 says N nodes; the file must have 7 + 6N bytes. Was it cut off, or is something appended?' ;;
@@ -63,7 +66,11 @@ refused() { # NUMBER PLACE
     -) say "${named}Refused by rule $1: $words." ;;
     *) say "${named}Refused by rule $1 at $name $2: $words." ;;
     esac
-    say "Next: $(remedy "$1" "$2")"
+    case $form-$1 in
+    text-17) say "$(about wrong "place=$2")" ;;
+    text-5 | text-6) say "Next: $(text_remedy "$1")" ;;
+    *) say "Next: $(remedy "$1" "$2")" ;;
+    esac
 }
 
 # ---- answers
@@ -86,10 +93,13 @@ circle() { # FIRST SECOND COUNT PAIRS..
     say "$named$nothing assures that others see node $1 before node $2. The circle in which that shows:"
     from=$1
     shift 3
+    pairs=$*
     walk="node ${1%-*}, then node ${1#*-}"
     shift
     for pair in "$@"; do walk="$walk; which may touch the same cell as node ${pair%-*}, then node ${pair#*-}"; done
     say "$walk; which may touch the same cell as node $from."
+    # shellcheck disable=SC2046  # a word a node
+    in_text 'In the text:' $(echo "$pairs" | tr - ' ')
     say "Next: $(pasted propose "$q" "$file")"
 }
 
@@ -97,6 +107,7 @@ proposal() { # COUNT PLACES..
     say "$(places "$@")"
     [ "$1" -gt 0 ] || return 0
     shift
+    in_text 'In the text, f goes after:' "$@"
     say "Next: $(pasted fence "$q" "$file")"
     say "To judge other places: $(pasted accept "$q" "$file" "$@")"
 }
@@ -117,6 +128,8 @@ acceptance() { # NODES
     *\ *) say "With a full fence after each of these nodes the listing is robust: $1." ;;
     *) say "With a full fence after node $1 the listing is robust." ;;
     esac
+    # shellcheck disable=SC2086  # a word a node
+    in_text 'In the text:' $1
 }
 
 # What the rules leave out, said where it can matter.

@@ -1,4 +1,4 @@
-/* Case A from C: judge a listing, ask for a patch, write the patched listing, judge it again. */
+/* Case A from C: judge a listing, ask for a patch, write the patched listing, judge it again. Then the fader, typed. */
 #include <stdio.h>
 
 #include <nyekushiro.h>
@@ -20,6 +20,20 @@ static void say(nyekushiro_answer answer, const uint8_t *chain)
             printf(" %d-%d", chain[2 * pair], chain[2 * pair + 1]);
         printf("\n");
     }
+}
+
+static void type_the_fader(uint8_t *chain)
+{
+    const char panel_and_mixing[] = "routine { w 1 w 2 } routine { r 2 r 1 }";
+    const uint8_t *text = (const uint8_t *)panel_and_mixing;
+    const size_t length = sizeof panel_and_mixing - 1;
+    uint8_t listing[NYEKUSHIRO_LISTING_BUFFER] = {0};
+
+    nyekushiro_answer typed = nyekushiro_text(text, length, listing, sizeof listing);
+    printf("%llu bytes from %llu typed ones\n", (unsigned long long)typed.count, (unsigned long long)length);
+    say(nyekushiro_judge(NYEKUSHIRO_X86_ON_ARMV7, listing, typed.count, chain, NYEKUSHIRO_CHAIN_BUFFER), chain);
+    /* without its last brace it breaks off */
+    say(nyekushiro_text(text, length - 1, listing, sizeof listing), chain);
 }
 
 int main(void)
@@ -49,5 +63,7 @@ int main(void)
     nyekushiro_answer written = nyekushiro_write(listing, sizeof listing, map, 4, patched, sizeof patched);
     printf("%llu bytes written\n", (unsigned long long)written.count);
     say(nyekushiro_judge(NYEKUSHIRO_SC_ON_X86, patched, written.count, chain, sizeof chain), chain);
+
+    type_the_fader(chain);
     return 0;
 }

@@ -7,6 +7,7 @@ void *host_judge(nyekushiro_answer *, uint64_t, const uint8_t *, size_t, uint8_t
 void *host_judge_patch(nyekushiro_answer *, uint64_t, const uint8_t *, size_t, const uint8_t *, size_t, uint8_t *, size_t);
 void *host_propose(nyekushiro_answer *, uint64_t, const uint8_t *, size_t, uint8_t *, size_t);
 void *host_write(nyekushiro_answer *, const uint8_t *, size_t, const uint8_t *, size_t, uint8_t *, size_t);
+void *host_text(nyekushiro_answer *, const uint8_t *, size_t, uint8_t *, size_t);
 
 nyekushiro_answer nyekushiro_read(const uint8_t *listing, size_t listing_len)
 {
@@ -44,5 +45,12 @@ nyekushiro_answer nyekushiro_write(const uint8_t *listing, size_t listing_len, c
 {
     nyekushiro_answer answer;
     host_write(&answer, listing, listing_len, map, map_len, out, out_len);
+    return answer;
+}
+
+nyekushiro_answer nyekushiro_text(const uint8_t *text, size_t text_len, uint8_t *out, size_t out_len)
+{
+    nyekushiro_answer answer;
+    host_text(&answer, text, text_len, out, out_len);
     return answer;
 }

@@ -1,4 +1,4 @@
-//! The five services, by either side.
+//! The six services, by either side.
 
 use inputs::Call;
 use nyekushiro::raw;
@@ -11,6 +11,7 @@ pub enum Service {
     JudgePatch,
     Propose,
     Write,
+    Text,
 }
 
 /// Who answers.
@@ -21,7 +22,8 @@ pub enum Side {
 }
 
 impl Service {
-    pub const ALL: [Service; 5] = [Service::Read, Service::Judge, Service::JudgePatch, Service::Propose, Service::Write];
+    pub const ALL: [Service; 6] =
+        [Service::Read, Service::Judge, Service::JudgePatch, Service::Propose, Service::Write, Service::Text];
 
     pub fn judges(self) -> bool {
         matches!(self, Service::Judge | Service::JudgePatch)
@@ -29,17 +31,19 @@ impl Service {
 
     /// Whether it takes or proposes places for fences.
     pub fn has_places(self) -> bool {
-        !matches!(self, Service::Read | Service::Judge)
+        matches!(self, Service::JudgePatch | Service::Propose | Service::Write)
     }
 
     /// Whether the service has the input that this refusal is about.
     pub fn may_refuse_by(self, number: u64) -> bool {
         match number {
-            1 => !matches!(self, Service::Read | Service::Write),
-            2..=12 => true,
+            1 => self.judges() || self == Service::Propose,
+            5 | 6 => true,
+            2..=4 | 7..=12 => self != Service::Text,
             13 | 14 => matches!(self, Service::JudgePatch | Service::Write),
             15 => self.has_places(),
             16 => self != Service::Read,
+            17 => self == Service::Text,
             _ => false,
         }
     }
@@ -51,6 +55,7 @@ impl Service {
             Service::Judge | Service::JudgePatch => call.chain_room,
             Service::Propose => call.map_room,
             Service::Write => call.listing_room,
+            Service::Text => call.text_room,
         }
     }
 
@@ -68,6 +73,7 @@ impl Service {
             Service::JudgePatch => raw::judge_patch(call.question, &call.listing, &call.map, lent),
             Service::Propose => raw::propose(call.question, &call.listing, lent),
             Service::Write => raw::write(&call.listing, &call.map, lent),
+            Service::Text => raw::text(&call.text, lent),
         }
     }
 
@@ -78,6 +84,7 @@ impl Service {
             Service::JudgePatch => plain::judge_patch(call.question, &call.listing, &call.map, lent).map(judged),
             Service::Propose => plain::propose(call.question, &call.listing, lent).map(|places| done(0, 0, places)),
             Service::Write => plain::write(&call.listing, &call.map, lent).map(|length| done(0, 0, length)),
+            Service::Text => plain::text(&call.text, lent).map(|length| done(0, 0, length)),
         };
         answer.unwrap_or_else(|refusal| raw::Answer {
             kind: raw::Answer::REFUSED,

@@ -126,7 +126,7 @@ mod tests {
     }
 
     #[test]
-    #[should_panic(expected = "Judge refused by 17, which is none of its refusals")]
+    #[should_panic(expected = "Judge refused by 18, which is none of its refusals")]
     fn stops_at_a_number_beyond_the_table() {
         count(Service::Judge, raw::Answer::REFUSED, REFUSALS as u64 + 1);
     }

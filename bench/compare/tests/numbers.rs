@@ -8,7 +8,7 @@ use straightforward as plain;
 fn of_the_listing() {
     assert_eq!((ours::HEADING, ours::RECORD), (plain::HEADING, plain::RECORD));
     assert_eq!((ours::ROUTINES, ours::NODES), (plain::MOST_ROUTINES, plain::MOST_NODES));
-    assert_eq!(ours::NONE, plain::NONE);
+    assert_eq!((ours::NONE, ours::DEEPEST), (plain::NONE, plain::DEEPEST));
     assert_eq!((ours::NODES, ours::length(ours::NODES)), (raw::MAP_BUFFER, raw::LISTING_BUFFER));
     let kinds = [ours::PLAIN, ours::READ, ours::WRITE, ours::RMW, ours::FENCE];
     let named = [plain::Kind::Plain, plain::Kind::Read, plain::Kind::Write, plain::Kind::Rmw, plain::Kind::Fence];

@@ -1,9 +1,11 @@
-//! Whole inputs: a question, a listing, a map, and the lengths of the lent buffers.
+//! Whole inputs: a question, a listing, a map, a text, and the lengths of the lent buffers.
 
 use crate::damage::damaged;
 use crate::listings::random_listing;
 use crate::numbers::{length, CHAIN_BUFFER, NODES, QUESTIONS};
 use crate::random::Random;
+use crate::text_damage::damaged_words;
+use crate::texts::{random_words, spread};
 
 #[derive(Clone, Debug)]
 pub struct Call {
@@ -13,6 +15,8 @@ pub struct Call {
     pub chain_room: usize,
     pub map_room: usize,
     pub listing_room: usize,
+    pub text: Vec<u8>,
+    pub text_room: usize,
 }
 
 impl Call {
@@ -22,14 +26,23 @@ impl Call {
         let map = map(random, nodes);
         let places = map.iter().filter(|&&byte| byte == 1).count();
         let listing = if random.once_in(5) { damaged(random, good) } else { good };
+        let (text, typed) = text(random);
         Call {
             question: question(random),
             chain_room: room(random, CHAIN_BUFFER),
             map_room: room(random, nodes),
             listing_room: room(random, length(nodes + places)),
+            text_room: room(random, length(typed)),
             listing,
             map,
+            text,
         }
+    }
+
+    /// Of nothing but a text, for a listing with at most so many nodes.
+    pub fn of_text(random: &mut Random, text: Vec<u8>, nodes: usize) -> Call {
+        let text_room = room(random, length(nodes));
+        Call { question: 0, listing: vec![], map: vec![], chain_room: 0, map_room: 0, listing_room: 0, text, text_room }
     }
 }
 
@@ -68,6 +81,21 @@ fn map(random: &mut Random, nodes: usize) -> Vec<u8> {
         _ => {}
     }
     map
+}
+
+/// A text, at times damaged or cut off, and how many nodes it has or would have.
+fn text(random: &mut Random) -> (Vec<u8>, usize) {
+    let typed = random_words(random);
+    let mut words = typed.words;
+    if random.once_in(3) && !words.is_empty() {
+        let at = random.below(words.len());
+        words = damaged_words(random, &words, at);
+    }
+    let mut text = spread(random, &words);
+    if random.once_in(6) {
+        text.truncate(random.below(text.len() + 1));
+    }
+    (text, typed.nodes)
 }
 
 /// The length of a lent buffer that must have `wanted` bytes.

@@ -13,6 +13,9 @@ pub const RECORD: usize = 6;
 pub const ROUTINES: usize = 16;
 pub const NODES: usize = 128;
 
+/// How deep a text may nest: "`loop` and `either` count; a ninth can't stand".
+pub const DEEPEST: usize = 8;
+
 pub const PLAIN: u8 = 0;
 pub const READ: u8 = 1;
 pub const WRITE: u8 = 2;

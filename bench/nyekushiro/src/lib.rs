@@ -106,3 +106,22 @@ pub fn write(listing: &[u8], map: &[u8]) -> Result<Vec<u8>, Refusal> {
     let answer = raw::write(listing, map, &mut out).done()?;
     Ok(out[..answer.count as usize].to_vec())
 }
+
+/// The listing of a typed text: parts `routine { block }`, whose items are `r`, `w` or `u` and a location, `f`, `loop { block }` and
+/// `either { block } { block }` (docs/LISTING.md).
+///
+/// ```
+/// use nyekushiro::{judge, text, Question};
+/// // the fader: the panel's routine, and the one that mixes
+/// let listing = text(b"routine { w 1 w 2 } routine { r 2 r 1 }")?;
+/// assert_eq!(judge(Question::X86OnArmv7, &listing)?.to_string(), "OPEN 0 1 2 0-1 2-3");
+///
+/// let refusal = text(b"routine { w 1 w }").unwrap_err();
+/// assert_eq!(refusal.to_string(), "bad text (refusal 17, byte 16)");
+/// # Ok::<(), nyekushiro::Refusal>(())
+/// ```
+pub fn text(text: &[u8]) -> Result<Vec<u8>, Refusal> {
+    let mut out = [0; LISTING_BUFFER];
+    let answer = raw::text(text, &mut out).done()?;
+    Ok(out[..answer.count as usize].to_vec())
+}

@@ -71,6 +71,7 @@ mod archive {
             out: *mut u8,
             out_len: usize,
         ) -> Answer;
+        pub fn nyekushiro_text(text: *const u8, text_len: usize, out: *mut u8, out_len: usize) -> Answer;
     }
 }
 
@@ -111,4 +112,9 @@ pub fn propose(question: u64, listing: &[u8], map: &mut [u8]) -> Answer {
 /// `count` is the length of the patched listing, which stands at the start of `out`.
 pub fn write(listing: &[u8], map: &[u8], out: &mut [u8]) -> Answer {
     unsafe { archive::nyekushiro_write(listing.as_ptr(), listing.len(), map.as_ptr(), map.len(), out.as_mut_ptr(), out.len()) }
+}
+
+/// `count` is the length of the typed text's listing, which stands at the start of `out`.
+pub fn text(text: &[u8], out: &mut [u8]) -> Answer {
+    unsafe { archive::nyekushiro_text(text.as_ptr(), text.len(), out.as_mut_ptr(), out.len()) }
 }

@@ -58,6 +58,8 @@ pub enum Place {
     Node(usize),
     /// An index of the map.
     Index(usize),
+    /// A byte of the text, or its length where it breaks off.
+    Byte(usize),
     /// The number that came with a reason that this wrapper does not know.
     Unknown(u64),
 }
@@ -67,6 +69,7 @@ impl fmt::Display for Place {
         match self {
             Place::Node(node) => write!(out, "node {node}"),
             Place::Index(index) => write!(out, "index {index}"),
+            Place::Byte(byte) => write!(out, "byte {byte}"),
             Place::Unknown(place) => write!(out, "place {place}"),
         }
     }
@@ -82,6 +85,10 @@ fn node(place: u64) -> Option<Place> {
 
 fn index(place: u64) -> Option<Place> {
     Some(Place::Index(place as usize))
+}
+
+fn byte(place: u64) -> Option<Place> {
+    Some(Place::Byte(place as usize))
 }
 
 fn unknown(place: u64) -> Option<Place> {
@@ -160,7 +167,7 @@ table! {
     4 Version nowhere "version not 1"
         "write the version as 01 00";
     5 Routines nowhere "F is 0 or over 16"
-        "give the number of routines, 1 to 16, in byte 5";
+        "have 1 to 16 routines: parts of a text, or their number in byte 5 of a listing";
     6 Nodes nowhere "N over 128"
         make_room!();
     7 Length nowhere "length not 7 + 6N"
@@ -183,6 +190,10 @@ table! {
         concat!("put in fewer fences, or ", make_room!());
     16 Buffer nowhere "lent output buffer too short"
         "lend 258 bytes for a chain, N for a map, 7 + 6(N + places) for a listing";
+    17 Text byte "bad text"
+        "mend the word that starts there, or go on where the text ends: a part is routine { block }, an item is r, w or u and a number \
+         (1 to 5 digits, at most 65535), f, loop { block } or either { block } { block }, at most 8 deep; no block is empty, and words \
+         stand apart";
 }
 
 impl Reason {
@@ -211,6 +222,7 @@ mod tests {
         assert_eq!(refused(9, 2).to_string(), "kind over 4 (refusal 9, node 2)");
         assert_eq!(refused(7, 0).to_string(), "length not 7 + 6N (refusal 7)");
         assert_eq!(refused(14, 3).to_string(), "map byte not 0 or 1 (refusal 14, index 3)");
+        assert_eq!(refused(17, 0).to_string(), "bad text (refusal 17, byte 0)");
     }
 
     #[test]

@@ -1,6 +1,6 @@
-//! The examples of docs/LISTING.md: its bytes are the fader's, and each row of its table is refused as it says.
+//! The examples of docs/LISTING.md: its bytes and its typed text are the fader's, and each row of its table is refused as it says.
 
-use nyekushiro::{raw, Place, Reason, Refusal};
+use nyekushiro::{raw, text, Place, Reason, Refusal};
 
 const PAGE: &str = include_str!("../../../docs/LISTING.md");
 const FADER: &[u8] = include_bytes!("../../../examples/fader.ord");
@@ -26,11 +26,11 @@ fn byte(digits: &str) -> u8 {
     u8::from_str_radix(digits, 16).unwrap()
 }
 
-/// `SERVICE [QUESTION]: LISTING[; map MAP][; room LENGTH]`
+/// `SERVICE [QUESTION]: LISTING[; map MAP][; room LENGTH]`, or `text: TEXT`.
 struct Call<'a> {
     service: &'a str,
     question: Option<u64>,
-    listing: Vec<u8>,
+    input: Vec<u8>,
     map: Option<Vec<u8>>,
     room: Option<usize>,
 }
@@ -40,10 +40,11 @@ impl Call<'_> {
         let (service, inputs) = text.split_once(": ").unwrap_or_else(|| panic!("{text:?} names no service"));
         let (service, question) = service.split_once(' ').map_or((service, None), |(name, number)| (name, Some(number)));
         let mut inputs = inputs.split("; ").peekable();
+        let first = inputs.next().unwrap();
         let call = Call {
             service,
             question: question.map(|number| number.parse().unwrap()),
-            listing: bytes(inputs.next().unwrap()),
+            input: if service == "text" { first.into() } else { bytes(first) },
             map: inputs.next_if(|input| input.starts_with("map")).map(|input| bytes(&input["map".len()..])),
             room: inputs.next_if(|input| input.starts_with("room ")).map(|input| input["room ".len()..].parse().unwrap()),
         };
@@ -53,11 +54,12 @@ impl Call<'_> {
 
     fn answer(&self, lent: &mut [u8]) -> raw::Answer {
         match (self.service, self.question, &self.map, self.room) {
-            ("read", None, None, None) => raw::read(&self.listing),
-            ("judge", Some(question), None, _) => raw::judge(question, &self.listing, lent),
-            ("judge_patch", Some(question), Some(map), _) => raw::judge_patch(question, &self.listing, map, lent),
-            ("propose", Some(question), None, _) => raw::propose(question, &self.listing, lent),
-            ("write", None, Some(map), _) => raw::write(&self.listing, map, lent),
+            ("read", None, None, None) => raw::read(&self.input),
+            ("judge", Some(question), None, _) => raw::judge(question, &self.input, lent),
+            ("judge_patch", Some(question), Some(map), _) => raw::judge_patch(question, &self.input, map, lent),
+            ("propose", Some(question), None, _) => raw::propose(question, &self.input, lent),
+            ("write", None, Some(map), _) => raw::write(&self.input, map, lent),
+            ("text", None, None, None) => raw::text(&self.input, lent),
             (service, ..) => panic!("{service:?} is no service, or has other inputs"),
         }
     }
@@ -84,6 +86,11 @@ fn fader_byte_by_byte() {
 }
 
 #[test]
+fn fader_typed() {
+    assert_eq!(text(between("```text", "```").join("\n").as_bytes()), Ok(FADER.to_vec()));
+}
+
+#[test]
 fn every_row_is_refused_so() {
     let section = between("## Refusals", "## ");
     let mut rows = section.iter().filter(|line| line.starts_with('|'));
@@ -98,6 +105,7 @@ fn every_row_is_refused_so() {
             "0" if at == 0 => None,
             "node" => Some(Place::Node(at)),
             "index of the first such" => Some(Place::Index(at)),
+            "byte" => Some(Place::Byte(at)),
             _ => panic!("{row:?} has a place that is none"),
         };
         let reason = Reason::from(number.parse::<u64>().unwrap());

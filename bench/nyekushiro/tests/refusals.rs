@@ -1,7 +1,7 @@
 //! The table of refusals, row by row: a smallest input, and its place.
 
 use nyekushiro::raw;
-use nyekushiro::{judge_patch, read, write, Place, Question, Reason, Refusal};
+use nyekushiro::{judge_patch, read, text, write, Place, Question, Reason, Refusal};
 
 /// A listing of one routine with these records.
 fn listing(records: &[[u8; 6]]) -> Vec<u8> {
@@ -33,6 +33,7 @@ fn every_row() {
         (write(&listing(&[PLAIN, PLAIN]), &[1, 2]).unwrap_err(), Some(Place::Index(1))),
         (write(&full, &[&[1], &[0; 127][..]].concat()).unwrap_err(), None),
         (raw::write(&full, &[0; 128], &mut [0; raw::LISTING_BUFFER - 1]).refusal().unwrap(), None),
+        (text(b"routine { }").unwrap_err(), Some(Place::Byte(10))),
     ];
     for (reason, (refusal, place)) in Reason::ALL.into_iter().zip(rows) {
         assert_eq!(refusal, Refusal { reason, place });

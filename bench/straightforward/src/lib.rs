@@ -1,4 +1,4 @@
-//! The five services, written straight from the text of the rules (docs/RULES.md, docs/LISTING.md): an answer of its own to hold against the proved judge.
+//! The six services, written straight from the text of the rules (docs/RULES.md, docs/LISTING.md): an answer of its own to hold against the proved judge.
 //!
 //! Each file is one idea of the rules, in their words. Nothing here is meant to be fast.
 //!
@@ -8,18 +8,26 @@
 //! let answer = straightforward::judge(1, sb, &mut chain).unwrap();
 //! assert_eq!(answer, straightforward::Answer::Open { first: 0, second: 1, count: 2 });
 //! assert_eq!(chain[..4], [0, 1, 2, 3]);
+//!
+//! let mut listing = [0; 31];
+//! assert_eq!(straightforward::text(b"routine { w 1 r 2 } routine { w 2 r 1 }", &mut listing), Ok(31));
+//! assert_eq!(&listing, sb);
 //! ```
 
 mod chains;
 mod listing;
 mod need;
+mod nodes;
 mod patch;
 mod refusals;
 mod services;
+mod tree;
 mod verdict;
 mod walks;
+mod words;
 
 pub use listing::{Kind, Listing, Node, HEADING, MOST_NODES, MOST_ROUTINES, NONE, RECORD};
 pub use need::Question;
 pub use refusals::Refusal;
-pub use services::{judge, judge_patch, program, propose, read, write, Answer, CHAIN_BUFFER};
+pub use services::{judge, judge_patch, program, propose, read, text, write, Answer, CHAIN_BUFFER};
+pub use tree::DEEPEST;

@@ -2,6 +2,8 @@
 
 use crate::listing::{Kind, Listing, Node, HEADING, MOST_NODES, MOST_ROUTINES, NONE, RECORD};
 use crate::need::Question;
+use crate::nodes;
+use crate::tree::{self, Block};
 
 #[derive(Clone, Copy, Debug, PartialEq, Eq)]
 pub struct Refusal {
@@ -35,14 +37,8 @@ pub fn listing(bytes: &[u8]) -> Result<Listing, Refusal> {
     if u16::from_le_bytes([bytes[3], bytes[4]]) != 1 {
         return refuse(4, 0);
     }
-    let routines = bytes[5];
-    if routines == 0 || routines as usize > MOST_ROUTINES {
-        return refuse(5, 0);
-    }
-    let count = bytes[6] as usize;
-    if count > MOST_NODES {
-        return refuse(6, 0);
-    }
+    let (routines, count) = (bytes[5], bytes[6] as usize);
+    limits(routines as usize, count)?;
     if bytes.len() != HEADING + RECORD * count {
         return refuse(7, 0);
     }
@@ -52,6 +48,17 @@ pub fn listing(bytes: &[u8]) -> Result<Listing, Refusal> {
         nodes.push(node(routines, &records, number)?);
     }
     Ok(Listing { routines, nodes })
+}
+
+/// Refusals 5 and 6.
+fn limits(routines: usize, nodes: usize) -> Result<(), Refusal> {
+    if routines == 0 || routines > MOST_ROUTINES {
+        return refuse(5, 0);
+    }
+    if nodes > MOST_NODES {
+        return refuse(6, 0);
+    }
+    Ok(())
 }
 
 /// Refusals 8 to 12, "all tried on node 0, then on node 1, and so on".
@@ -79,6 +86,13 @@ fn node(routines: u8, records: &[&[u8]], number: usize) -> Result<Node, Refusal>
     }
     let link = |byte: u8| (byte != NONE).then_some(byte as usize);
     Ok(Node { routine, kind, location, successors: [link(first), link(second)] })
+}
+
+/// Refusals 17, 5 and 6, in that order: the blocks of a text's parts.
+pub fn text(bytes: &[u8]) -> Result<Vec<Block>, Refusal> {
+    let parts = tree::parts(bytes).or_else(|place| refuse(17, place))?;
+    limits(parts.len(), parts.iter().map(nodes::count).sum())?;
+    Ok(parts)
 }
 
 /// Refusals 13 to 15: after which nodes a fence is put.

@@ -1,7 +1,8 @@
-//! The five services over numbers and bytes, and the judge program.
+//! The six services over numbers and bytes, and the judge program.
 
 use crate::listing::Listing;
 use crate::need::Question;
+use crate::nodes;
 use crate::patch::patched;
 use crate::refusals::{self, Refusal};
 use crate::verdict::{first_failing, first_nodes};
@@ -54,7 +55,18 @@ pub fn propose(question: u64, listing: &[u8], map: &mut [u8]) -> Result<usize, R
 pub fn write(listing: &[u8], map: &[u8], out: &mut [u8]) -> Result<usize, Refusal> {
     let listing = refusals::listing(listing)?;
     let fenced = refusals::map(map, &listing)?;
-    let bytes = patched(&listing, &fenced).bytes();
+    put(&patched(&listing, &fenced), out)
+}
+
+/// The length of the typed text's listing.
+pub fn text(text: &[u8], out: &mut [u8]) -> Result<usize, Refusal> {
+    let parts = refusals::text(text)?;
+    put(&nodes::listing(&parts), out)
+}
+
+/// Puts the listing at the start of the lent buffer, and says how long it is.
+fn put(listing: &Listing, out: &mut [u8]) -> Result<usize, Refusal> {
+    let bytes = listing.bytes();
     refusals::room(out, bytes.len())?;
     out[..bytes.len()].copy_from_slice(&bytes);
     Ok(bytes.len())

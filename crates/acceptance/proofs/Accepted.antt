@@ -21,7 +21,7 @@ use Rattle.verdict.specs.Judging.{questionRules}
 use Rattle.patch.specs.Patching.{mapRules, fitRules, patchRules}
 use Rattle.patch.specs.Accepting.{Fits}
 use Rattle.patch.proofs.MapRules.{patchedOf, fit-stops, fit-passes}
-use Rattle.lines.specs.Text.{bytes}
+use Rattle.listing.specs.Ascii.{bytes}
 use Rattle.acceptance.specs.Accept.{mapOf, acceptedLine, PatchedLine, acceptRules, NamedLine, AcceptLine}
 
 -- ── Which line says ACCEPTED ────────────────────────────────────────────────

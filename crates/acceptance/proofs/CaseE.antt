@@ -14,7 +14,8 @@ use Rattle.order.proofs.Check.{checked}
 use Rattle.fencing.specs.Marks.{marksOf}
 use Rattle.verdict.specs.Judging.{questionRules}
 use Rattle.patch.specs.Patching.{mapRules, fitRules, patchRules, askRules}
-use Rattle.lines.specs.Text.{bytes, decimal}
+use Rattle.listing.specs.Ascii.{bytes}
+use Rattle.lines.specs.Text.{decimal}
 use Rattle.say.proofs.CaseA.{listing, admitted, nodes}
 use Rattle.acceptance.specs.Accept.{mapOf, acceptedLine, PatchedLine, acceptRules, NamedLine, AcceptLine}
 

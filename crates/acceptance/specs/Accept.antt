@@ -14,7 +14,7 @@ use Rattle.order.specs.Patched.{patched}
 use Rattle.fencing.specs.Marks.{marksOf}
 use Rattle.verdict.specs.Judging.{questionRules}
 use Rattle.patch.specs.Patching.{mapByte, patchRules}
-use Rattle.lines.specs.Text.{bytes}
+use Rattle.listing.specs.Ascii.{bytes}
 use Rattle.say.specs.Lines.{refusalLine, verdictLine, Lined}
 
 -- ── The nodes named, as a map ───────────────────────────────────────────────

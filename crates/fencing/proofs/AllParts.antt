@@ -11,10 +11,9 @@ use Rattle.listing.specs.Node.{Listing}
 use Rattle.listing.specs.Bytes.{recordAt, headingBytes, nodesBytes, bytesOf}
 use Rattle.listing.specs.Answer.{filled}
 use Rattle.listing.proofs.Stores.{sets-append, fills}
-use Rattle.listing.proofs.RoundTrip.{nodes-bytes-length, bytes-length}
+use Rattle.listing.proofs.RoundTrip.{nodes-bytes-length, bytes-append, bytes-length}
 use Rattle.order.specs.Patched.{Marks, places, kept, fences, patched}
 use Rattle.order.proofs.Patch.{length-patched}
-use Rattle.fencing.proofs.Putting.{bytes-append}
 
 kept-bytes : (k : ℕ) (L : Listing) (ms : Marks) → HEADING + length (nodesBytes (kept k L ms)) ≡ recordAt (length L)
 kept-bytes k [] ms = refl

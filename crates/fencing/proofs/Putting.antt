@@ -1,7 +1,7 @@
 -- The patched listing's bytes, node by node, as the writer puts them.
 use mathlib.Core.Path.{_≡_, refl, sym, ap, ap₂, _∙_}
 use mathlib.Core.Bool.{Bool, true, false}
-use mathlib.Core.List.{List, [], _∷_, _++_, append-assoc}
+use mathlib.Core.List.{List, _∷_, _++_}
 use Prim.Native.Nat.{ℕ, _+_, _≤_, _<_}
 use native.Mathlib.Omega.{arith}
 use lib.ListN.{length, drop, drop-of-length-le}
@@ -10,6 +10,7 @@ use Rattle.listing.specs.Limits.{RECORD}
 use Rattle.listing.specs.Node.{Node, blank, Listing, node}
 use Rattle.listing.specs.Bytes.{recordAt, nodeBytes, nodesBytes}
 use Rattle.listing.proofs.Stores.{next, sets-append}
+use Rattle.listing.proofs.RoundTrip.{bytes-append}
 use Rattle.order.specs.Patched.{Marks, marked, redirect, fenceAfter, kept, fences}
 use Rattle.fencing.specs.Inner.Putting.{keptAs, fenceIf, nextAfter}
 
@@ -43,10 +44,6 @@ kept-step false n k ns ms = refl
 fences-step : (b : Bool) (n : Node) (ns : Listing) (ms : Marks) → fences (n ∷ ns) (b ∷ ms) ≡ fenceIf b n ++ fences ns ms
 fences-step true n ns ms = refl
 fences-step false n ns ms = refl
-
-pub bytes-append : (ns ps : Listing) → nodesBytes (ns ++ ps) ≡ nodesBytes ns ++ nodesBytes ps
-bytes-append [] ps = refl
-bytes-append (n ∷ ns) ps = ap (λ (l : List ℕ). nodeBytes n ++ l) (bytes-append ns ps) ∙ sym (append-assoc (nodeBytes n) (nodesBytes ns) (nodesBytes ps))
 
 fence-length : (b : Bool) (n : Node) (k : ℕ) → recordAt k + length (nodesBytes (fenceIf b n)) ≡ recordAt (nextAfter b k)
 fence-length true n k = omega arith

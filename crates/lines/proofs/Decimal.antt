@@ -9,7 +9,8 @@ use borrow.Author.Tests.{lt-ltb, le-ltb}
 use lib.Dec.{T, leb, ltb, leb→le, nleb→lt}
 use lib.ListN.{length, length-append}
 use Rattle.io.specs.Digits as io
-use Rattle.lines.specs.Text.{bytes, digit, digits, decimal, next, pair}
+use Rattle.listing.specs.Ascii.{bytes}
+use Rattle.lines.specs.Text.{digit, digits, decimal, next, pair}
 
 glyph : (d : ℕ) → d < 10 → io.glyph d ≡ 48 + d
 glyph d h = ap (λ (b : Bool). cond b (48 + d) (87 + d)) (lt-ltb d 10 h)

@@ -3,7 +3,8 @@ use mathlib.Core.Path.{_≡_, refl}
 use mathlib.Core.List.{List, [], _∷_, map}
 use Prim.Native.Nat.{ℕ, _-_, _^_}
 use Prim.Native.String.{String}
-use Rattle.lines.specs.Text.{bytes, decimal, pair}
+use Rattle.listing.specs.Ascii.{bytes}
+use Rattle.lines.specs.Text.{decimal, pair}
 
 abbrev numbers : List ℕ
 numbers = 0 ∷ 7 ∷ 10 ∷ 99 ∷ 100 ∷ 129 ∷ (2 ^ 64 - 1) ∷ []

@@ -1,6 +1,6 @@
 -- Bytes to nodes and back: reading what was written, and writing what was read.
 use mathlib.Core.Path.{_≡_, refl, sym, ap, ap₂, _∙_}
-use mathlib.Core.List.{List, [], _∷_, _++_}
+use mathlib.Core.List.{List, [], _∷_, _++_, append-assoc}
 use Prim.Native.Nat.{ℕ, zero, suc, _+_, _*_, _/_, _%_, _≤_, _<_}
 use native.Mathlib.Nat.{add-assoc, add-zero}
 use native.Mathlib.Numerals.{towards-suc}
@@ -20,6 +20,11 @@ use Rattle.listing.proofs.Headed.{admitted-headed}
 pub nodes-bytes-length : (L : Listing) → length (nodesBytes L) ≡ RECORD * length L
 nodes-bytes-length [] = refl
 nodes-bytes-length (n ∷ ns) = omega (arith, nodes-bytes-length ns)
+
+-- one row of records after another
+pub bytes-append : (L M : Listing) → nodesBytes (L ++ M) ≡ nodesBytes L ++ nodesBytes M
+bytes-append [] M = refl
+bytes-append (n ∷ ns) M = rw (bytes-append ns M, append-assoc)
 
 -- "The whole is exactly 7 + 6N bytes"
 pub bytes-length : (v f : ℕ) (L : Listing) → length (bytesOf v f L) ≡ recordAt (length L)

@@ -1,6 +1,7 @@
 pub mod Limits
 pub mod Kinds
 pub mod Node
+pub mod Ascii
 pub mod Bytes
 pub mod Rules
 pub mod Answer

@@ -4,10 +4,12 @@ ghost use Rattle.listing.specs.Read.{readSays, readOf};
 ghost use Rattle.listing.specs.Answer as paper;
 ghost use Rattle.verdict.specs.Judging.{judgeSays, JudgePromise};
 ghost use Rattle.patch.specs.Patching.{JudgePatchPromise, proposeSays, ProposePromise, writeSays, WritePromise};
+ghost use Rattle.text.specs.Typing.{typedSays, Typed};
 ghost use Rattle.nyekushiro.specs.Exported.{said};
 use listing::ReadAnswer;
 use patch::ProposeAnswer;
 use patch::WriteAnswer;
+use text::TypedAnswer;
 use verdict::JudgeAnswer;
 
 // kind 0: done, or ROBUST; 1: OPEN; 2: REFUSED, with first the number and second the place.
@@ -93,6 +95,15 @@ fn of_write(answer: WriteAnswer) -> Answer
     }
 }
 
+fn of_typed(answer: TypedAnswer) -> Answer
+    ensures { λ r. ⌜ said r ≡ typedSays answer ⌝ }
+{
+    match answer {
+        TypedAnswer::Written(length) => done(0, 0, length),
+        TypedAnswer::Refused { number, place } => refused(number, place),
+    }
+}
+
 #[no_mangle]
 pub extern "C" fn nyekushiro_read(bytes: &[u8]) -> Answer
     ensures { λ r. ⌜ said r ≡ readOf (now (bytes .entry)) ⌝ }
@@ -131,4 +142,11 @@ pub extern "C" fn nyekushiro_write(bytes: &[u8], map: &[u8], out: &mut [u8]) -> 
     ensures { λ r. ⌜ WritePromise (now (bytes .entry)) (now (map .entry)) (now (out .entry)) (now (out .exit)) (said r) ⌝ }
 {
     of_write(patch::write(bytes, map, out))
+}
+
+#[no_mangle]
+pub extern "C" fn nyekushiro_text(text: &[u8], out: &mut [u8]) -> Answer
+    ensures { λ r. ⌜ Typed (now (text .entry)) (now (out .entry)) (said r) (now (out .exit)) ⌝ }
+{
+    of_typed(text::listing(text, out))
 }

@@ -21,7 +21,8 @@ pub fn reason(number: u8) {
         13 => text(b"map length not N"),
         14 => text(b"map byte not 0 or 1"),
         15 => text(b"N + places over 128"),
-        _ => text(b"lent output buffer too short"),
+        16 => text(b"lent output buffer too short"),
+        _ => text(b"bad text"),
     }
 }
 

@@ -23,7 +23,8 @@ use Rattle.order.specs.Cases.{caseA}
 use Rattle.order.proofs.Check.{checked}
 use Rattle.verdict.specs.Judging.{wrongQuestion}
 use Rattle.patch.specs.Patching.{askRules}
-use Rattle.lines.specs.Text.{bytes, decimal}
+use Rattle.listing.specs.Ascii.{bytes}
+use Rattle.lines.specs.Text.{decimal}
 use Rattle.say.specs.Lines.{verdictLine, JudgedLine, JudgeLine}
 
 -- "4F 52 44 01 00 02 04 | 00 02 01 00 01 FF | 00 01 02 00 FF FF | 01 02 02 00 03 FF | 01 01 01 00 FF FF"

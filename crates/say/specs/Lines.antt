@@ -14,7 +14,8 @@ use Rattle.order.specs.Verdict.{Verdict, robust, opened, Judged}
 use Rattle.order.specs.Patched.{Marks, places}
 use Rattle.order.specs.Proposed.{Proposed}
 use Rattle.patch.specs.Patching.{askRules, fitRules}
-use Rattle.lines.specs.Text.{bytes, next, pair}
+use Rattle.listing.specs.Ascii.{bytes}
+use Rattle.lines.specs.Text.{next, pair}
 
 -- ── What a line says ────────────────────────────────────────────────────────
 -- "REFUSED number place"

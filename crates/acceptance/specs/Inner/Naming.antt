@@ -6,7 +6,7 @@ use lib.ListN.{length}
 use Rattle.listing.specs.Bytes.{byte}
 use Rattle.verdict.specs.declared.JudgeAnswer.{JudgeAnswer}
 use Rattle.patch.specs.Patching.{mapByte}
-use Rattle.lines.specs.Text.{bytes}
+use Rattle.listing.specs.Ascii.{bytes}
 use Rattle.say.specs.Lines.{Lined}
 use Rattle.say.specs.Inner.Answers.{toldLine}
 use Rattle.acceptance.specs.Accept.{named, NamedLine}

@@ -5,7 +5,8 @@ use Prim.Native.Nat.{suc, _+_, _≤_}
 use native.Mathlib.Omega.{arith}
 use denote.Ref.{now}
 use lib.ListN.{length, length-append}
-use Rattle.lines.specs.Text.{bytes, decimal}
+use Rattle.listing.specs.Ascii.{bytes}
+use Rattle.lines.specs.Text.{decimal}
 use Rattle.lines.proofs.Putting.{both-put}
 use Rattle.lines.proofs.pair.Statement.{statement}
 use Rattle.lines.proofs.pair.Tie as tie

@@ -8,7 +8,8 @@ use Rattle.verdict.specs.declared.JudgeAnswer.{JudgeAnswer}
 use Rattle.verdict.specs.declared.JudgeAnswer.the-variants as judging
 use Rattle.patch.specs.declared.ProposeAnswer.{ProposeAnswer}
 use Rattle.patch.specs.declared.ProposeAnswer.the-variants as proposing
-use Rattle.lines.specs.Text.{bytes, next, pair}
+use Rattle.listing.specs.Ascii.{bytes}
+use Rattle.lines.specs.Text.{next, pair}
 use Rattle.say.specs.Lines.{refusalLine, openLine, proposalLine}
 
 -- pair i of a chain buffer

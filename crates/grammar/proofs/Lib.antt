@@ -1,0 +1,12 @@
+pub mod Sizes
+pub mod Steps
+pub mod Leads
+pub mod Standing
+pub mod Places
+pub mod Moves
+pub mod Items
+pub mod Blocks
+pub mod Parts
+pub mod Unique
+pub mod OneReading
+pub mod Examples

@@ -1,0 +1,232 @@
+-- The executable grammar, in which each word leads from a state to the next or can't stand, and what the readers say of it.
+use mathlib.Core.Path.{_≡_}
+use mathlib.Core.Bool.{cond}
+use mathlib.Core.List.{List, [], _∷_}
+use Prim.Native.Nat.{ℕ, suc, _+_, _≤_}
+use lib.ListN.{length}
+use lib.Dec.{ltb}
+use Rattle.words.specs.Words.{Token, Routine, Loop, Either, Open, Close, Fence, Access, Number, Other}
+use Rattle.words.specs.Inner.Looking.{Mark, closeCode, unread, ahead, Place}
+use Rattle.words.specs.declared.Found.{Found}
+use Rattle.grammar.specs.Tree.{
+  Item,
+  access,
+  fence,
+  loop,
+  either,
+  Block,
+  one,
+  also,
+  Text,
+  nothing,
+  part,
+  DEPTH,
+  itemSize,
+  blockSize,
+  ItemWithin,
+  BlockWithin,
+  partsOf,
+  sizeOf,
+}
+use Rattle.grammar.specs.declared.Step.{Step}
+use Rattle.grammar.specs.declared.Step.the-variants.{At, Bad}
+
+-- the items of a block read so far
+pub data Before : Type 0 where
+  none : Before
+  some : Block → Before
+
+abbrev pub and : Before → Item → Before
+and none i = some (one i)
+and (some b) i = some (also b i)
+
+-- what stands around the block that is read: a part; or a loop, or an either's first or second block, after the items before it
+pub data Around : Type 0 where
+  ofPart : Text → Around
+  ofLoop : Before → Around → Around
+  ofFirst : Before → Around → Around
+  ofSecond : Before → Block → Around → Around
+
+-- how deep that is
+abbrev pub deep : Around → ℕ
+deep (ofPart t) = 0
+deep (ofLoop b a) = suc (deep a)
+deep (ofFirst b a) = suc (deep a)
+deep (ofSecond b c a) = suc (deep a)
+
+pub data State : Type 0 where
+  -- between parts
+  between : Text → State
+  -- before a block's `{`
+  opening : Around → State
+  -- in a block
+  inside : Before → Around → State
+  -- after `r`, `w` or `u`
+  located : ℕ → Before → Around → State
+
+-- a block is read to its `}`
+abbrev pub closed : Block → Around → State
+closed b (ofPart t) = between (part t b)
+closed b (ofLoop x a) = inside (and x (loop b)) a
+closed b (ofFirst x a) = opening (ofSecond x b a)
+closed b (ofSecond x c a) = inside (and x (either c b)) a
+
+pub data Move : Type 0 where
+  stuck : Move
+  to : State → Move
+
+-- one level more, while there is one
+abbrev pub enter : ℕ → Around → Move
+enter d a = cond (ltb d DEPTH) (to (opening a)) stuck
+
+abbrev pub atBetween : Text → Token → Move
+atBetween t Routine = to (opening (ofPart t))
+atBetween t Loop = stuck
+atBetween t Either = stuck
+atBetween t Open = stuck
+atBetween t Close = stuck
+atBetween t Fence = stuck
+atBetween t (Access k) = stuck
+atBetween t (Number n) = stuck
+atBetween t Other = stuck
+
+abbrev pub atOpening : Around → Token → Move
+atOpening a Open = to (inside none a)
+atOpening a Routine = stuck
+atOpening a Loop = stuck
+atOpening a Either = stuck
+atOpening a Close = stuck
+atOpening a Fence = stuck
+atOpening a (Access k) = stuck
+atOpening a (Number n) = stuck
+atOpening a Other = stuck
+
+abbrev pub atClose : Before → Around → Move
+atClose none a = stuck
+atClose (some b) a = to (closed b a)
+
+abbrev pub atInside : Before → Around → Token → Move
+atInside x a (Access k) = to (located k x a)
+atInside x a Fence = to (inside (and x fence) a)
+atInside x a Loop = enter (deep a) (ofLoop x a)
+atInside x a Either = enter (deep a) (ofFirst x a)
+atInside x a Close = atClose x a
+atInside x a Open = stuck
+atInside x a Routine = stuck
+atInside x a (Number n) = stuck
+atInside x a Other = stuck
+
+abbrev pub atLocated : ℕ → Before → Around → Token → Move
+atLocated k x a (Number n) = to (inside (and x (access k n)) a)
+atLocated k x a Routine = stuck
+atLocated k x a Loop = stuck
+atLocated k x a Either = stuck
+atLocated k x a Open = stuck
+atLocated k x a Close = stuck
+atLocated k x a Fence = stuck
+atLocated k x a (Access j) = stuck
+atLocated k x a Other = stuck
+
+abbrev pub move : State → Token → Move
+move (between t) w = atBetween t w
+move (opening a) w = atOpening a w
+move (inside x a) w = atInside x a w
+move (located k x a) w = atLocated k x a w
+
+-- what a text is: the tree, or bad at a place
+pub data Outcome : Type 0 where
+  tree : Text → Outcome
+  bad : ℕ → Outcome
+
+-- the text ends here: "or the text's length if it breaks off"
+abbrev pub stop : ℕ → State → Outcome
+stop len (between t) = tree t
+stop len (opening a) = bad len
+stop len (inside x a) = bad len
+stop len (located k x a) = bad len
+
+abbrev pub onward : Move → ℕ → (State → Outcome) → Outcome
+onward stuck p more = bad p
+onward (to s) p more = more s
+
+-- a text of len bytes is read on from a state
+abbrev pub read : ℕ → State → List Mark → Outcome
+read len s [] = stop len s
+read len s (w ∷ ws) = onward (move s (w .token)) (w .place) (λ t. read len t ws)
+
+-- ── What the readers say ────────────────────────────────────────────────────
+-- the text s is read on from a state at a place, or at the word found
+abbrev pub from : List ℕ → State → ℕ → Outcome
+from s st p = read (length s) st (unread s p)
+
+abbrev pub fromWord : List ℕ → State → Found → Outcome
+fromWord s st w = read (length s) st (ahead s w)
+
+unfoldable pub parse : List ℕ → Outcome
+parse s = from s (between nothing) 0
+
+-- so many levels are left inside a
+abbrev pub Levels : Around → ℕ → Type 0
+Levels a depth = deep a + depth ≡ DEPTH
+
+-- the first word of an item was found, or no word is left
+pub record ItemAhead (s : List ℕ) (w : Found) : Type 0 where
+  pub found : Place s w
+  pub going : w .code ≡ closeCode → ⊥
+
+-- one item stands between the word w and place e, with `depth` levels left: it leads every block that it can stand in from the one to
+-- the other
+pub record ItemSpan (s : List ℕ) (w : Found) (depth : ℕ) (i : Item) (e : ℕ) : Type 0 where
+  pub within : ItemWithin i depth
+  pub same : (x : Before) (a : Around) → Levels a depth → fromWord s (inside x a) w ≡ from s (inside (and x i) a) e
+
+-- and one block with its braces between two places
+pub record BlockSpan (s : List ℕ) (at depth : ℕ) (b : Block) (e : ℕ) : Type 0 where
+  pub within : BlockWithin b depth
+  pub same : (a : Around) → Levels a depth → from s (opening a) at ≡ from s (closed b a) e
+
+-- what the item reader says of the item whose first word was found: it reads one item, of n nodes, up to e; or the word at p can't stand
+abbrev pub ItemRead : List ℕ → Found → ℕ → Step → Type 0
+ItemRead s w depth (At e n) =
+    (i : Item) × (itemSize i ≡ n) × (w .start + n ≤ e) × (w .end ≤ e) × (e ≤ length s) × (1 ≤ n) × ItemSpan s w depth i e
+ItemRead s w depth (Bad p) =
+    (x : Before) (a : Around) → Levels a depth → fromWord s (inside x a) w ≡ bad p
+
+-- what the block reader says of the block whose `{` is next
+abbrev pub BlockRead : List ℕ → ℕ → ℕ → Step → Type 0
+BlockRead s at depth (At e n) =
+    (b : Block) × (blockSize b ≡ n) × (at + n + 2 ≤ e) × (e ≤ length s) × BlockSpan s at depth b e
+BlockRead s at depth (Bad p) =
+    (a : Around) → Levels a depth → from s (opening a) at ≡ bad p
+
+abbrev pub beforeSize : Before → ℕ
+beforeSize none = 0
+beforeSize (some b) = blockSize b
+
+abbrev pub BeforeWithin : Before → ℕ → Type 0
+BeforeWithin none d = Unit
+BeforeWithin (some b) d = BlockWithin b d
+
+-- in the block whose `{` was next at `at`, the items of `size` nodes are read up to `here`
+pub record BlockGoes (s : List ℕ) (at depth here size : ℕ) : Type 0 where
+  pub items : Before
+  pub nodes : beforeSize items ≡ size
+  pub deep-so : BeforeWithin items depth
+  pub passed : at + 1 + size ≤ here
+  pub within : here ≤ length s
+  pub same : (a : Around) → Levels a depth → from s (opening a) at ≡ from s (inside items a) here
+
+-- what the reader says of a text: how many parts and nodes its tree has, or where it is bad
+abbrev pub TextRead : List ℕ → Step → Type 0
+TextRead s (At f n) = (t : Text) × (partsOf t ≡ f) × (sizeOf t ≡ n) × (parse s ≡ tree t)
+TextRead s (Bad p) = parse s ≡ bad p
+
+-- `parts` parts, of `nodes` nodes, are read up to `here`
+pub record TextGoes (s : List ℕ) (here f n : ℕ) : Type 0 where
+  pub text : Text
+  pub parted : partsOf text ≡ f
+  pub nodes : sizeOf text ≡ n
+  pub few : f ≤ here
+  pub less : n ≤ here
+  pub within : here ≤ length s
+  pub same : parse s ≡ from s (between text) here

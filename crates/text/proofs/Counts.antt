@@ -1,0 +1,42 @@
+-- An item, a block and a text have as many nodes as their sizes say.
+use mathlib.Core.Path.{_≡_, refl}
+use Prim.Native.Nat.{ℕ, _+_}
+use native.Mathlib.Omega.{arith}
+use lib.ListN.{length, length-append}
+use Rattle.listing.specs.Node.{none as nowhere}
+use Rattle.grammar.specs.Tree.{Item, access, fence, loop, either, Block, one, also, Text, nothing, part}
+use Rattle.grammar.specs.Tree.{partsOf, sizeOf, nodesOf, itemSize, blockSize, itemNodes, blockNodes}
+use Rattle.grammar.specs.Inner.Reader.{Before, none, some, beforeSize}
+use Rattle.text.specs.Inner.Writer.{beforeNodes}
+
+mutual
+  unfolding itemNodes blockNodes itemSize blockSize
+
+  pub item-count : (i : Item) (r n next : ℕ) → length (itemNodes i r n next) ≡ itemSize i
+  item-count (access k l) r n next = refl
+  item-count fence r n next = refl
+  item-count (loop b) r n next = let e = block-count b r (n + 1) n in omega arith
+  item-count (either b c) r n next =
+      let e = block-count b r (n + 1) (n + 1 + blockSize b + blockSize c) in
+      let f = block-count c r (n + 1 + blockSize b) (n + 1 + blockSize b + blockSize c) in
+      simp length-append (omega arith)
+
+  pub block-count : (b : Block) (r n next : ℕ) → length (blockNodes b r n next) ≡ blockSize b
+  block-count (one i) r n next = item-count i r n next
+  block-count (also b i) r n next =
+      let e = block-count b r n (n + blockSize b) in
+      let f = item-count i r (n + blockSize b) next in
+      simp length-append (omega arith)
+
+-- the items of a block so far
+pub before-count : (x : Before) (r n next : ℕ) → length (beforeNodes x r n next) ≡ beforeSize x
+before-count none r n next = refl
+before-count (some b) r n next = block-count b r n next
+
+-- A TEXT HAS AS MANY NODES AS ITS SIZE SAYS
+pub text-count : (t : Text) → length (nodesOf t) ≡ sizeOf t
+text-count nothing = refl
+text-count (part t b) =
+    let e = text-count t in
+    let f = block-count b (partsOf t) (sizeOf t) nowhere in
+    simp length-append (omega arith)

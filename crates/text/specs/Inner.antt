@@ -1,0 +1,4 @@
+pub mod Records
+pub mod Good
+pub mod Writer
+pub mod Decided

@@ -1,0 +1,4 @@
+pub mod Typing
+pub mod Entered
+pub mod Cases
+pub mod Inner
