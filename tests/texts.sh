@@ -80,7 +80,9 @@ node 5: routine 0, fence, then 0 (line 3, column 13: f)' '' show "$typed"
 printf 'ORD' >"$typed"
 try 2 'REFUSED 2 0' 'fewer than 7 bytes' judge 1 "$typed"
 printf 'routine { w 1 }\000' >"$typed"
-try 2 'REFUSED 3 0' 'A typed text has no zero byte' judge 1 "$typed"
+try 2 'REFUSED 3 0' 'and has no zero byte: save it as plain text' judge 1 "$typed"
+printf 'ORDER the panel { w 1 }' >"$typed"
+try 2 'REFUSED 4 0' 'A typed text does not start with ORD' judge 1 "$typed"
 printf 'routine ORD' >"$typed"
 try 2 'REFUSED 17 8' '' judge 1 "$typed"
 { cat "$text" && head -c 4000 /dev/zero; } >"$typed"
@@ -124,7 +126,20 @@ try 2 '' 'is the text itself' fence 3 "$room/texts/a.txt" "$room/texts/a.txt"
 "$root/nyekushiro" type - "$room/texts/a.txt" <"$room/texts/a.txt" 2>"$room/err"
 ended $? 2 type - a.txt '<a.txt'
 says 'is the text itself' type - a.txt '<a.txt'
+# nor over another text, and a listing that is replaced is named
+printf 'routine { r 7 }' >"$room/texts/e.txt"
+try 2 '' "'$room/texts/a.txt' is no listing, and would be lost." type "$room/texts/e.txt" "$room/texts/a.txt"
+says "Next: name another file: $root/nyekushiro type $room/texts/e.txt OUT" type e.txt a.txt
+try 2 '' "'$room/texts/link' is no listing, and would be lost." type "$room/texts/e.txt" "$room/texts/link"
+try 2 '' 'is no listing, and would be lost' fence 3 "$room/texts/e.txt" "$room/texts/a.txt"
+rm "$room/texts/e.txt"
 for name in a.txt b; do cmp -s "$text" "$room/texts/$name" || wrong "wrote over $name" type; done
+try 0 '' '' type "$room/texts/a.txt"
+said "Written: $room/texts/a.ord (replaced)" type a.txt again
+try 0 '' '' type "$text" "$room/texts/c"
+said "Written: $room/texts/c (replaced)" type fader.txt c
+try 0 '' '' fence 3 "$room/texts/a.txt"
+said "Written: $room/texts/a.fenced.ord (replaced)" fence 3 a.txt again
 cp "$text" "$room/texts/own.txt"
 holds "$room/texts" 'a.fenced.ord a.ord a.txt b b.ord c d.ord d.txt link own.txt'
 
@@ -201,6 +216,35 @@ mistake 'routine { r 1 IF { r 1 } }' 14 "Line 1, column 15: 'IF' cannot stand he
      |               ^
 $more
 Next: write 'either' for it."
+mistake 'routine { r 1 mfence }' 14 "Line 1, column 15: 'mfence' cannot stand here.
+   1 | routine { r 1 mfence }
+     |               ^
+$more
+Next: write 'f' for it."
+for word in dmb DMB dsb fence lfence sfence; do
+    mistake "routine { r 1 $word }" 14 "Line 1, column 15: '$word' cannot stand here.
+   1 | routine { r 1 $word }
+     |               ^
+$more
+Next: write 'f' for it if it orders all loads and stores; leave out one that orders only some."
+done
+for word in rmw CAS xchg cmpxchg swp swap ldrex ldxr ldaxr; do
+    mistake "routine { $word 1 }" 10 "Line 1, column 11: '$word' cannot stand here.
+   1 | routine { $word 1 }
+     |           ^
+$item
+Next: write 'u N' if it always completes, else 'either { u N } { r N }'."
+done
+mistake 'routine { either { r 1 } else { r 2 } }' 25 "Line 1, column 26: 'else' cannot stand here.
+   1 | routine { either { r 1 } else { r 2 } }
+     |                          ^
+Here can stand: { for the second block of either.
+Next: either has two blocks, one after the other: 'either { .. } { .. }'."
+mistake 'routine { r 1 else { r 2 } }' 14 "Line 1, column 15: 'else' cannot stand here.
+   1 | routine { r 1 else { r 2 } }
+     |               ^
+$more
+Next: either has two blocks, one after the other: 'either { .. } { .. }'."
 mistake 'routine { jump }' 10 "Line 1, column 11: 'jump' cannot stand here.
    1 | routine { jump }
      |           ^
@@ -429,20 +473,21 @@ follow 'routine { loop { loop { loop { loop { loop { loop { loop { either { ' r 
 
 # ---- too few or too many, in the typist's words
 
-apart='Keep all routines that may share a cell in one text; only groups of routines that share no cell and have no unknown location may be parted.'
+apart='Keep all routines that may share a cell in one text; only groups that share no cell and have no unknown location may be parted.'
 many() { awk -v what="$1" -v count="$2" 'BEGIN { while (count-- > 0) printf "%s ", what }'; }
 for nothing in '' ' \r\n \n'; do
     printf "$nothing" >"$typed"
     try 2 'REFUSED 5 0' '' judge 1 "$typed"
     said "Refused by rule 5: F is 0 or over 16.
-Next: the text has no words: type a routine, as $root/nyekushiro help type shows." judge 1 "$nothing"
+Next: the text has no words: type a routine, as $root/nyekushiro help type shows. Or was an export cut off?" judge 1 "$nothing"
 done
 many 'routine { f }' 16 >"$typed"
 try 0 ROBUST '' judge 1 "$typed"
 many 'routine { f }' 17 >"$typed"
 try 2 'REFUSED 5 0' '' judge 1 "$typed"
 said "Refused by rule 5: F is 0 or over 16.
-Next: the text has 17 routines, and 16 is the most. $apart" judge 1 17 routines
+Next: the text has 17 routines, and 16 is the most.
+$apart" judge 1 17 routines
 echo x >>"$typed"
 try 2 'REFUSED 17 238' 'Line 1, column 239' judge 1 "$typed"
 { echo 'routine {' && many 'either { f } { f }' 32 && echo '}'; } >"$typed"
@@ -450,7 +495,8 @@ try 0 ROBUST '' judge 1 "$typed"
 { echo 'routine {' && many 'either { f } { f }' 32 && echo 'f }'; } >"$typed"
 try 2 'REFUSED 6 0' '' judge 1 "$typed"
 said "Refused by rule 6: N over 128.
-Next: the text gives 129 nodes, and 128 is the most: r, w, u, f and loop are one each, an either two. $apart" judge 1 129 nodes
+Next: the text gives 129 nodes, and 128 is the most: r, w, u, f and loop are one each, an either two.
+$apart" judge 1 129 nodes
 echo '}' >>"$typed"
 try 2 'REFUSED 17 622' 'take it out, since no block is open' judge 1 "$typed"
 
@@ -467,8 +513,10 @@ try 2 '' 'the text is longer than 1 MiB' type "$typed"
 # ---- help
 
 try 0 any '' help type
-for part in 'routine { loop { r 2 } r 1 }' 'a column is a byte' 'at most 1 MiB' 'docs/TYPING.md'; do
+for part in 'routine { loop { r 2 } r 1 }' 'a column is a byte' 'at most 1 MiB' 'docs/TYPING.md' '32768 to 65535 a block of cells' 'a listing that'; do
     grep -Fq -- "$part" "$room/out" || wrong "does not say '$part'" help type
 done
 sed -n '/^  routine/s/^  //p' "$room/out" >"$typed"
+cp "$room/out" "$room/page"
+try 0 "$(cat "$room/page")" '' type --help
 try 1 any '' judge 3 "$typed"

@@ -33,6 +33,14 @@ no_folder() { # OUT HOW-TO-NAME-ANOTHER
     if [ -d "$1" ] || [ "$1" != "${1%/}" ]; then complain "'$1' is a folder." "name a file in it: $2"; fi
 }
 
+# Whether nothing but a listing is lost where OUT is written. Sets instead to what is then said of that listing.
+replaceable() { # OUT
+    instead=''
+    [ "$1" != - ] && [ -f "$1" ] && [ -s "$1" ] || return 0
+    # opened out here: a path in /dev may be another file to the process that reads
+    { start=$(octal - 3); } 2>/dev/null <"$1" && [ "$start" = ' 117 122 104' ] && instead=' (replaced)'
+}
+
 # Whether what is read, - for standard input, and OUT are one file.
 same_file() { # FILE OUT
     case $1 in -) set -- /dev/stdin "$2" ;; esac

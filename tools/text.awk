@@ -9,7 +9,7 @@ BEGIN {
     for (code = 0; code < 256; code++) show[sprintf("%03o", code)] = sprintf(code < 32 || code > 126 ? "\\x%02X" : "%c", code)
     show["011"] = "\\t"
     show["015"] = " "
-    count = split("read r write w rmw u fence f mfence f dmb f if either else either while loop for loop do loop", pair, " ")
+    count = split("read r write w mfence f if either while loop for loop do loop", pair, " ")
     for (i = 1; i < count; i += 2) meant[pair[i]] = pair[i + 1]
     if (mode != "wrong") place = -1
     line = 1
@@ -168,6 +168,7 @@ function advice(word) {
     if (word ~ /[,;]/) return "put nothing but spaces between words"
     if (expects == "number") return advice_number(word)
     if (word != tolower(word) && step(tolower(word))) return "use small letters: '" tolower(word) "'"
+    if (tolower(word) == "else") return "either has two blocks, one after the other: 'either { .. } { .. }'"
     if (expects == "{") return "write the " (opens == "second" ? "second block of either" : "block of " opens) " here: '{ .. }'"
     return expects == "routine" ? advice_part(tolower(word)) : advice_item(tolower(word))
 }
@@ -196,6 +197,8 @@ function advice_item(word) {
     if (word == "routine") return "end the routine before it with }; it has " still_open()
     if (word == "{") return "write loop or either before a block"
     if (word ~ /^[0-9]+$/) return "write r, w or u before each number"
+    if (word ~ /^([ls]?fence|d[ms]b)$/) return "write 'f' for it if it orders all loads and stores; leave out one that orders only some"
+    if (word ~ /^(rmw|cas|(cmp)?xchg|swp|swap|ldrex|lda?xr)$/) return "write 'u N' if it always completes, else 'either { u N } { r N }'"
     if (word in meant) return "write '" meant[word] "' for it"
     return correct_it()
 }

@@ -28,9 +28,9 @@ text_remedy() { # NUMBER
     # shellcheck disable=SC2046  # two numbers
     set -- "$1" $(about count)
     case $1-$2 in
-    5-0) printf '%s\n' "the text has no words: type a routine, as $me help type shows." ;;
-    5-*) echo "the text has $2 routines, and 16 is the most. $together" ;;
-    *) echo "the text gives $3 nodes, and 128 is the most: r, w, u, f and loop are one each, an either two. $together" ;;
+    5-0) printf '%s\n' "the text has no words: type a routine, as $me help type shows. Or was an export cut off?" ;;
+    5-*) printf '%s\n' "the text has $2 routines, and 16 is the most." "$together" ;;
+    *) printf '%s\n' "the text gives $3 nodes, and 128 is the most: r, w, u, f and loop are one each, an either two." "$together" ;;
     esac
 }
 

@@ -38,23 +38,23 @@ pasted() { # WORDS..: this command with these words
 # ---- refusals
 
 # Each routine of the fader alone is robust, both together are open: so a listing leaves out no routine that shares a cell.
-parted='only groups of routines that share no cell and have no unknown location may be parted.'
+parted='only groups that share no cell and have no unknown location may be parted.'
 smaller="Keep all routines that may share a cell in one listing; take out plain nodes; $parted"
 
 remedy() { # NUMBER PLACE
     case $1 in
     1) echo 'ask 1, 2, 3 or 4, or one of sc-x86, sc-armv7, x86-armv7, armv8-armv7.' ;;
     2 | 3 | 4)
-        echo 'is this a listing? One starts with the bytes 4F 52 44 01 00 (ORD, version 1). A typed text has no zero byte: save it as plain'
-        echo 'text, not as UTF-16.'
+        echo 'is this a listing? One starts with the bytes 4F 52 44 01 00 (ORD, version 1). A typed text does not start with ORD'
+        echo 'and has no zero byte: save it as plain text, not as UTF-16.'
         ;;
     5) echo 'byte 5 is the routine count F; it must be 1 to 16.' ;;
-    6) echo "byte 6 is the node count N; it must be at most 128. $smaller" ;;
+    6) printf '%s\n' 'byte 6 is the node count N; it must be at most 128.' "$smaller" ;;
     7) echo 'byte 6 says N nodes; the file must have 7 + 6N bytes. Was it cut off, or is something appended?' ;;
     13) printf '%s\n' "a node is named that the listing has not. Name nodes 0 to N-1, which this lists: $(pasted show "$file")" ;;
     15)
-        case $command in accept) few='Name fewer nodes. ' ;; *) few='' ;; esac
-        echo "the listing with its fences has over 128 nodes. $few$smaller"
+        case $command in accept) few=' Name fewer nodes.' ;; *) few='' ;; esac
+        printf '%s\n' "the listing with its fences has over 128 nodes.$few" "$smaller"
         ;;
     *) echo "correct node $2: its six bytes start at byte $((7 + 6 * $2)) of the listing." ;;
     esac
