@@ -9,11 +9,11 @@ use Rattle.words.specs.Inner.Looking.{openCode, closeCode, tokenOf, Ahead}
 use Rattle.words.specs.declared.Found.{Found}
 use Rattle.grammar.specs.Tree.{Block, BlockWithin}
 use Rattle.grammar.specs.Inner.Reader.{
-  Before,
+  SoFar,
   none,
   some,
   and,
-  Around,
+  Outside,
   opening,
   inside,
   move,
@@ -57,7 +57,7 @@ module _ (s : List ℕ) (at d : ℕ) (w : Found) (next : Ahead s at w) where
 
 -- the items of b are read up to `here`, and w closes the block
 pub close-span : (s : List ℕ) (at d here : ℕ) (w : Found) (b : Block) → BlockWithin b d
-    → ((a : Around) → Levels a d → from s (opening a) at ≡ from s (inside (some b) a) here) → Ahead s here w → w .code ≡ closeCode
+    → ((a : Outside) → Levels a d → from s (opening a) at ≡ from s (inside (some b) a) here) → Ahead s here w → w .code ≡ closeCode
     → BlockSpan s at d b (w .end)
 unfolding tokenOf
 close-span s at d here w b l f next e =
@@ -65,7 +65,7 @@ close-span s at d here w b l f next e =
 
 -- ── After some items: the word w after `here` ───────────────────────────────
 module _ (s : List ℕ) (at d here size : ℕ) (w : Found) (goes : BlockGoes s at d here size) (next : Ahead s here w) where
-  pub so-far : (a : Around) → Levels a d → from s (opening a) at ≡ fromWord s (inside (goes .items) a) w
+  pub so-far : (a : Outside) → Levels a d → from s (opening a) at ≡ fromWord s (inside (goes .items) a) w
   so-far a h = goes .same a h ∙ rw (next .same)
 
   pub ahead-item : (w .code ≡ closeCode → ⊥) → ItemAhead s w
@@ -101,7 +101,7 @@ module _ (s : List ℕ) (at d here size : ℕ) (w : Found) (goes : BlockGoes s a
   unfolding tokenOf
   block-empty e z a h = so-far a h ∙ led s w (inside (goes .items) a) closeCode e refl ∙ go (goes .items) (goes .nodes)
     where
-      go : (x : Before) → beforeSize x ≡ size → onward (move (inside x a) Close) (w .start) (λ t. from s t (w .end)) ≡ bad (w .start)
+      go : (x : SoFar) → beforeSize x ≡ size → onward (move (inside x a) Close) (w .start) (λ t. from s t (w .end)) ≡ bad (w .start)
       go none _ = refl
       go (some b) k = let f = block-some b in absurd (omega arith)
 
@@ -109,8 +109,8 @@ module _ (s : List ℕ) (at d here size : ℕ) (w : Found) (goes : BlockGoes s a
   pub block-closes : w .code ≡ closeCode → (size ≡ 0 → ⊥) → BlockRead s at d (At (w .end) size)
   block-closes e z = go (goes .items) (goes .nodes) (goes .deep-so) (goes .same)
     where
-      go : (x : Before) → beforeSize x ≡ size → BeforeWithin x d
-          → ((a : Around) → Levels a d → from s (opening a) at ≡ from s (inside x a) here) → BlockRead s at d (At (w .end) size)
+      go : (x : SoFar) → beforeSize x ≡ size → BeforeWithin x d
+          → ((a : Outside) → Levels a d → from s (opening a) at ≡ from s (inside x a) here) → BlockRead s at d (At (w .end) size)
       go none k l f = absurd (z (sym k))
       go (some b) k l f =
           let past = next .found .some (λ h. omega arith) in

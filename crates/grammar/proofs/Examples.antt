@@ -5,7 +5,7 @@ use Prim.Native.Nat.{ℕ, zero, suc}
 use Prim.Native.String.{String}
 use Rattle.listing.specs.Ascii.{bytes}
 use Rattle.listing.specs.Kinds.{READ, WRITE, RMW}
-use Rattle.words.specs.Words.{blank, number, meaning}
+use Rattle.words.specs.Words.{isBlank, number, meaning}
 use Rattle.words.specs.Inner.Looking.{unread}
 use Rattle.grammar.specs.Tree.{access, fence, loop, either, Block, one, also, nothing, part}
 use Rattle.grammar.specs.Inner.Reader.{Outcome, tree, bad, parse}
@@ -67,5 +67,5 @@ computed (r ∷ rs) e = (found (bytes (r .0)) (r .1) cc, computed rs cc)
 
 -- EACH TEXT IS WHAT ITS ROW SAYS
 pub readings-right : Right texts
-unfolding parse unread blank number meaning
+unfolding parse unread isBlank number meaning
 readings-right = computed texts refl

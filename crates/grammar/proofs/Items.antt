@@ -9,8 +9,8 @@ use Rattle.words.specs.Inner.Looking.{loopCode, eitherCode, fenceCode, accessCo
 use Rattle.words.specs.declared.Found.{Found}
 use Rattle.grammar.specs.Tree.{access, fence, loop, either, Block, DEPTH, itemSize, ItemWithin}
 use Rattle.grammar.specs.Inner.Reader.{
-  Before,
-  Around,
+  SoFar,
+  Outside,
   ofLoop,
   ofFirst,
   ofSecond,
@@ -36,7 +36,7 @@ use Rattle.grammar.proofs.Moves.{led, no-number, no-item, stands-not}
 
 -- ── An access: its location is the word n ───────────────────────────────────
 module _ (s : List ℕ) (w n : Found) (d : ℕ) (ok : ItemAhead s w) (e : w .code ≡ accessCode) (after : Ahead s (w .end) n) where
-  to-location : (x : Before) (a : Around) → fromWord s (inside x a) w ≡ fromWord s (located (w .value) x a) n
+  to-location : (x : SoFar) (a : Outside) → fromWord s (inside x a) w ≡ fromWord s (located (w .value) x a) n
   unfolding tokenOf
   to-location x a = led s w (inside x a) accessCode e refl ∙ rw (after .same)
 
@@ -79,7 +79,7 @@ module _ (s : List ℕ) (w : Found) (d : ℕ) (ok : ItemAhead s w) where
       stands-not s w (ok .found .none) (inside x a) refl (no-item (w .code) (w .value) x a l e (ok .going) f r)
 
   -- "a ninth can't stand"
-  deepest : (a b : Around) → Levels a d → d ≡ 0 → enter (deep a) b ≡ stuck
+  deepest : (a b : Outside) → Levels a d → d ≡ 0 → enter (deep a) b ≡ stuck
   deepest a b h z = rw (le-ltb (deep a) DEPTH (omega arith))
 
   pub loop-deep : w .code ≡ loopCode → d ≡ 0 → ItemRead s w d (Bad (w .start))
@@ -100,12 +100,12 @@ module _ (s : List ℕ) (w : Found) (d : ℕ) (ok : ItemAhead s w) where
 
   -- a level is left
   module _ (z : d ≡ 0 → ⊥) where
-    pub into-loop : w .code ≡ loopCode → (x : Before) (a : Around) → Levels a d
+    pub into-loop : w .code ≡ loopCode → (x : SoFar) (a : Outside) → Levels a d
         → fromWord s (inside x a) w ≡ from s (opening (ofLoop x a)) (w .end)
     unfolding tokenOf
     into-loop e x a h = led s w (inside x a) loopCode e refl ∙ rw (lower a (ofLoop x a) d h (omega arith))
 
-    pub into-either : w .code ≡ eitherCode → (x : Before) (a : Around) → Levels a d
+    pub into-either : w .code ≡ eitherCode → (x : SoFar) (a : Outside) → Levels a d
         → fromWord s (inside x a) w ≡ from s (opening (ofFirst x a)) (w .end)
     unfolding tokenOf
     into-either e x a h = led s w (inside x a) eitherCode e refl ∙ rw (lower a (ofFirst x a) d h (omega arith))

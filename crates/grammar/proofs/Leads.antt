@@ -23,12 +23,12 @@ use Rattle.grammar.specs.Tree.{
   DEPTH,
 }
 use Rattle.grammar.specs.Inner.Reader.{
-  Before,
+  SoFar,
   none,
   some,
   and,
   BeforeWithin,
-  Around,
+  Outside,
   ofPart,
   ofLoop,
   ofFirst,
@@ -49,11 +49,11 @@ use Rattle.grammar.specs.Inner.Reader.{
 use Rattle.grammar.proofs.Steps.{then, steps}
 
 -- the words that lead to a state
-unfoldable pub beforeWords : Before → List Token
+unfoldable pub beforeWords : SoFar → List Token
 beforeWords none = []
 beforeWords (some b) = blockWords b
 
-unfoldable pub aroundWords : Around → List Token
+unfoldable pub aroundWords : Outside → List Token
 aroundWords (ofPart t) = wordsOf t ++ (Routine ∷ [])
 aroundWords (ofLoop x a) = aroundWords a ++ (Open ∷ (beforeWords x ++ (Loop ∷ [])))
 aroundWords (ofFirst x a) = aroundWords a ++ (Open ∷ (beforeWords x ++ (Either ∷ [])))
@@ -65,12 +65,12 @@ stateWords (opening a) = aroundWords a
 stateWords (inside x a) = aroundWords a ++ (Open ∷ beforeWords x)
 stateWords (located k x a) = aroundWords a ++ (Open ∷ (beforeWords x ++ (Access k ∷ [])))
 
-pub and-words : (x : Before) (i : Item) → beforeWords (and x i) ≡ beforeWords x ++ itemWords i
+pub and-words : (x : SoFar) (i : Item) → beforeWords (and x i) ≡ beforeWords x ++ itemWords i
 unfolding beforeWords blockWords
 and-words none i = refl
 and-words (some b) i = refl
 
-pub closed-words : (b : Block) (a : Around) → stateWords (closed b a) ≡ aroundWords a ++ (Open ∷ (blockWords b ++ (Close ∷ [])))
+pub closed-words : (b : Block) (a : Outside) → stateWords (closed b a) ≡ aroundWords a ++ (Open ∷ (blockWords b ++ (Close ∷ [])))
 unfolding stateWords aroundWords itemWords
 closed-words b (ofPart t) = simp append-assoc
 closed-words b (ofLoop x a) = simp (and-words x (loop b), append-assoc)
@@ -84,7 +84,7 @@ to-inj e = cc
 pub not-stuck : {s : State} → stuck ≡ to s → ⊥
 not-stuck e = true≢false cc
 
-enter-to : (d : ℕ) (a : Around) (u : State) → enter d a ≡ to u → (opening a ≡ u) × (d < DEPTH)
+enter-to : (d : ℕ) (a : Outside) (u : State) → enter d a ≡ to u → (opening a ≡ u) × (d < DEPTH)
 enter-to d a u e = go (ltb d DEPTH) refl e
   where
     go : (b : Bool) → ltb d DEPTH ≡ b → cond b (to (opening a)) stuck ≡ to u → (opening a ≡ u) × (d < DEPTH)
@@ -92,7 +92,7 @@ enter-to d a u e = go (ltb d DEPTH) refl e
     go false h q = absurd (not-stuck q)
 
 -- a state's blocks are at most 8 deep
-unfoldable pub AroundWithin : Around → Type 0
+unfoldable pub AroundWithin : Outside → Type 0
 AroundWithin (ofPart t) = TextWithin t
 AroundWithin (ofLoop x a) = (deep a < DEPTH) × BeforeWithin x (DEPTH - deep a) × AroundWithin a
 AroundWithin (ofFirst x a) = (deep a < DEPTH) × BeforeWithin x (DEPTH - deep a) × AroundWithin a
@@ -104,7 +104,7 @@ StateWithin (opening a) = AroundWithin a
 StateWithin (inside x a) = BeforeWithin x (DEPTH - deep a) × AroundWithin a
 StateWithin (located k x a) = BeforeWithin x (DEPTH - deep a) × AroundWithin a
 
-pub and-within : (x : Before) (i : Item) (d : ℕ) → BeforeWithin x d → ItemWithin i d → BeforeWithin (and x i) d
+pub and-within : (x : SoFar) (i : Item) (d : ℕ) → BeforeWithin x d → ItemWithin i d → BeforeWithin (and x i) d
 unfolding BlockWithin
 and-within none i d hx hi = hi
 and-within (some b) i d hx hi = (hx, hi)
@@ -112,7 +112,7 @@ and-within (some b) i d hx hi = (hx, hi)
 less : (b : Block) (n : ℕ) → BlockWithin b (DEPTH - suc n) → BlockWithin b (DEPTH - n - 1)
 less b n w = subst (BlockWithin b) (omega arith) w
 
-closed-within : (b : Block) (a : Around) → BlockWithin b (DEPTH - deep a) → AroundWithin a → StateWithin (closed b a)
+closed-within : (b : Block) (a : Outside) → BlockWithin b (DEPTH - deep a) → AroundWithin a → StateWithin (closed b a)
 unfolding AroundWithin StateWithin ItemWithin
 closed-within b (ofPart t) w h = (h, w)
 closed-within b (ofLoop x a) w h = let l = h .0 in (and-within x (loop b) _ (h .1) (omega arith, less b (deep a) w), h .2)

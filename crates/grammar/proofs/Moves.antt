@@ -23,8 +23,8 @@ use Rattle.words.specs.Inner.Looking.{
 use Rattle.words.specs.declared.Found.{Found}
 use Rattle.grammar.specs.Tree.{Text}
 use Rattle.grammar.specs.Inner.Reader.{
-  Before,
-  Around,
+  SoFar,
+  Outside,
   State,
   between,
   opening,
@@ -83,13 +83,13 @@ module _ (c v : ℕ) where
   pub no-routine : (t : Text) → (c ≡ routineCode → ⊥) → Stuck (between t) (tokenOf c v)
   no-routine t h = each (Stuck (between t)) c v (but h) bars bars bars bars bars bars bars refl
 
-  pub no-open : (a : Around) → (c ≡ openCode → ⊥) → Stuck (opening a) (tokenOf c v)
+  pub no-open : (a : Outside) → (c ≡ openCode → ⊥) → Stuck (opening a) (tokenOf c v)
   no-open a h = each (Stuck (opening a)) c v bars bars bars (but h) bars bars bars bars refl
 
-  pub no-number : (k : ℕ) (x : Before) (a : Around) → (c ≡ numberCode → ⊥) → Stuck (located k x a) (tokenOf c v)
+  pub no-number : (k : ℕ) (x : SoFar) (a : Outside) → (c ≡ numberCode → ⊥) → Stuck (located k x a) (tokenOf c v)
   no-number k x a h = each (Stuck (located k x a)) c v bars bars bars bars bars bars bars (but h) refl
 
-  pub no-item : (x : Before) (a : Around) → (c ≡ loopCode → ⊥) → (c ≡ eitherCode → ⊥) → (c ≡ closeCode → ⊥) → (c ≡ fenceCode → ⊥)
+  pub no-item : (x : SoFar) (a : Outside) → (c ≡ loopCode → ⊥) → (c ≡ eitherCode → ⊥) → (c ≡ closeCode → ⊥) → (c ≡ fenceCode → ⊥)
       → (c ≡ accessCode → ⊥) → Stuck (inside x a) (tokenOf c v)
   no-item x a l e q f r = each (Stuck (inside x a)) c v bars (but l) (but e) bars (but q) (but f) (but r) bars refl
 

@@ -19,10 +19,10 @@ use Rattle.grammar.specs.Tree.{
   partsOf,
   sizeOf,
 }
-use Rattle.grammar.specs.Inner.Reader.{Before, none, some, and, beforeSize}
+use Rattle.grammar.specs.Inner.Reader.{SoFar, none, some, and, beforeSize}
 
 -- one item more
-pub and-size : (x : Before) (i : Item) → beforeSize (and x i) ≡ beforeSize x + itemSize i
+pub and-size : (x : SoFar) (i : Item) → beforeSize (and x i) ≡ beforeSize x + itemSize i
 unfolding blockSize
 and-size none i = omega arith
 and-size (some b) i = refl

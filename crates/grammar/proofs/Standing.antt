@@ -3,15 +3,15 @@ use mathlib.Core.Path.{_≡_, refl, sym, ap, _∙_, subst}
 use mathlib.Core.List.{List, [], _∷_, _++_}
 use Prim.Native.Nat.{ℕ}
 use Rattle.listing.specs.Ascii.{bytes}
-use Rattle.words.specs.Words.{Token, Word, word, meaning, number}
+use Rattle.words.specs.Words.{Token, Word, wordAt, meaning, number}
 use Rattle.grammar.specs.Tree.{Item, access, fence, loop, either, Block, one, also, Text, nothing, part}
 use Rattle.grammar.specs.Stands.{saying, Reads, Stands}
 use Rattle.grammar.specs.Inner.Reader.{
-  Before,
+  SoFar,
   none,
   some,
   and,
-  Around,
+  Outside,
   ofPart,
   ofLoop,
   ofFirst,
@@ -60,7 +60,7 @@ one-tree ws t u r q = between-inj (to-inj (sym (reads-tree ws t r) ∙ reads-tre
 -- ── Continuations ───────────────────────────────────────────────────────────
 -- a word of a continuation, wherever it stands
 says : List ℕ → Word
-says w = word 0 w
+says w = wordAt 0 w
 
 opener : Word
 opener = says (bytes "{")
@@ -75,7 +75,7 @@ unknown : Word
 unknown = says (bytes "0")
 
 -- words that close all that is open
-rest : Around → List Word
+rest : Outside → List Word
 rest (ofPart t) = []
 rest (ofLoop x a) = closer ∷ rest a
 rest (ofFirst x a) = opener ∷ item ∷ closer ∷ closer ∷ rest a
@@ -92,12 +92,12 @@ Finishes : State → List Word → Type 0
 Finishes s ws = (t : Text) × (steps s (saying ws) ≡ to (between t))
 
 -- a block with items in it can be closed
-closes : (x : Before) (i : Item) (a : Around) (ws : List Word) → ((b : Block) → Finishes (closed b a) ws) → Finishes (inside (and x i) a) (closer ∷ ws)
+closes : (x : SoFar) (i : Item) (a : Outside) (ws : List Word) → ((b : Block) → Finishes (closed b a) ws) → Finishes (inside (and x i) a) (closer ∷ ws)
 unfolding Finishes meaning closer says
 closes none i a ws f = f (one i)
 closes (some b) i a ws f = f (also b i)
 
-rests : (a : Around) (b : Block) → Finishes (closed b a) (rest a)
+rests : (a : Outside) (b : Block) → Finishes (closed b a) (rest a)
 unfolding Finishes rest meaning opener closer item says
 rests (ofPart t) b = (part t b, refl)
 rests (ofLoop x a) b = closes x (loop b) a (rest a) (λ c. rests a c)

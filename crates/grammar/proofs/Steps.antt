@@ -26,11 +26,11 @@ use Rattle.grammar.specs.Tree.{
   DEPTH,
 }
 use Rattle.grammar.specs.Inner.Reader.{
-  Before,
+  SoFar,
   none,
   some,
   and,
-  Around,
+  Outside,
   ofPart,
   ofLoop,
   ofFirst,
@@ -72,7 +72,7 @@ pub after : (s u : State) (ks ls : List Token) → steps s ks ≡ to u → steps
 after s u ks ls e = steps-append s ks ls ∙ ap (λ (m : Move). then m (λ t. steps t ls)) e
 
 -- the items of a block after others
-unfoldable pub adds : Before → Block → Before
+unfoldable pub adds : SoFar → Block → SoFar
 adds x (one i) = and x i
 adds x (also b i) = and (adds x b) i
 
@@ -82,22 +82,22 @@ adds-none (one i) = refl
 adds-none (also b i) = rw (adds-none b)
 
 -- a level is left
-pub lower : (a b : Around) (d : ℕ) → Levels a d → 0 < d → enter (deep a) b ≡ to (opening b)
+pub lower : (a b : Outside) (d : ℕ) → Levels a d → 0 < d → enter (deep a) b ≡ to (opening b)
 lower a b d h z = rw (lt-ltb (deep a) DEPTH (omega arith))
 
 -- a block between braces, where its items are read
-pub braced : (a : Around) (b : Block) (ks : List Token) → steps (inside none a) (blockWords b) ≡ to (inside (adds none b) a)
+pub braced : (a : Outside) (b : Block) (ks : List Token) → steps (inside none a) (blockWords b) ≡ to (inside (adds none b) a)
     → steps (opening a) (Open ∷ (blockWords b ++ (Close ∷ ks))) ≡ steps (closed b a) ks
 braced a b ks e =
-    after (inside none a) (inside (some b) a) (blockWords b) (Close ∷ ks) (e ∙ ap (λ (x : Before). to (inside x a)) (adds-none b))
+    after (inside none a) (inside (some b) a) (blockWords b) (Close ∷ ks) (e ∙ ap (λ (x : SoFar). to (inside x a)) (adds-none b))
 
-deeper : (a : Around) (d : ℕ) → Levels a d → 0 < d → suc (deep a) + (d - 1) ≡ DEPTH
+deeper : (a : Outside) (d : ℕ) → Levels a d → 0 < d → suc (deep a) + (d - 1) ≡ DEPTH
 deeper a d h z = omega arith
 
 mutual
   unfolding itemWords blockWords ItemWithin BlockWithin adds
 
-  item-steps : (i : Item) (x : Before) (a : Around) (d : ℕ) → Levels a d → ItemWithin i d
+  item-steps : (i : Item) (x : SoFar) (a : Outside) (d : ℕ) → Levels a d → ItemWithin i d
       → steps (inside x a) (itemWords i) ≡ to (inside (and x i) a)
   item-steps (access k n) x a d h w = refl
   item-steps fence x a d h w = refl
@@ -111,7 +111,7 @@ mutual
       (braced (ofFirst x a) b (Open ∷ (blockWords c ++ (Close ∷ []))) (block-steps b none (ofFirst x a) (d - 1) l (w .1))
       ∙ braced (ofSecond x b a) c [] (block-steps c none (ofSecond x b a) (d - 1) l (w .2)))
 
-  pub block-steps : (b : Block) (x : Before) (a : Around) (d : ℕ) → Levels a d → BlockWithin b d
+  pub block-steps : (b : Block) (x : SoFar) (a : Outside) (d : ℕ) → Levels a d → BlockWithin b d
       → steps (inside x a) (blockWords b) ≡ to (inside (adds x b) a)
   block-steps (one i) x a d h w = item-steps i x a d h w
   block-steps (also b i) x a d h w =

@@ -30,10 +30,10 @@ use Rattle.grammar.specs.Tree.{
 }
 use Rattle.grammar.specs.Stands.{saying}
 use Rattle.grammar.specs.Inner.Reader.{
-  Before,
+  SoFar,
   none,
   and,
-  Around,
+  Outside,
   ofPart,
   State,
   between,
@@ -206,7 +206,7 @@ leads-to : (s : List ℕ) (t : Text) (st : State) (p : ℕ) → from s st p ≡ 
 unfolding unread rest
 leads-to s t st p e = from-state (wordsFrom p (drop p s)) st (length s) t e
 
-module _ (s : List ℕ) (at d : ℕ) (a : Around) (t : Text) (room : Levels a d) (good : from s (opening a) at ≡ tree t) where
+module _ (s : List ℕ) (at d : ℕ) (a : Outside) (t : Text) (room : Levels a d) (good : from s (opening a) at ≡ tree t) where
   after-block : (b : Block) (e : ℕ) → BlockSpan s at d b e → wordsOf t ≡ aroundWords a ++ (Open ∷ (blockWords b ++ (Close ∷ rest s e)))
   after-block b e x =
       leads-to s t (closed b a) e (sym (x .same a room) ∙ good) ∙ simp (closed-words b a, append-assoc)
@@ -217,7 +217,7 @@ module _ (s : List ℕ) (at d : ℕ) (a : Around) (t : Text) (room : Levels a d)
       let within : (b : Block) → BlockWithin b d → BlockWithin b DEPTH = λ b. block-looser b d DEPTH (omega arith) in
       one-block b c (rest s e) (rest s f) (within b (x .within)) (within c (y .within)) (head-same both .1) .0
 
-module _ (s : List ℕ) (w : Found) (d : ℕ) (x : Before) (a : Around) (t : Text) (room : Levels a d)
+module _ (s : List ℕ) (w : Found) (d : ℕ) (x : SoFar) (a : Outside) (t : Text) (room : Levels a d)
     (good : fromWord s (inside x a) w ≡ tree t) where
   after-item : (i : Item) (e : ℕ) → ItemSpan s w d i e
       → wordsOf t ≡ (aroundWords a ++ (Open ∷ beforeWords x)) ++ (itemWords i ++ rest s e)

@@ -14,7 +14,7 @@ use Rattle.order.specs.Rows.{All}
 use Rattle.grammar.specs.Tree.{Text, Block, part, wordsOf, blockSize, partsOf, sizeOf, nodesOf}
 use Rattle.grammar.specs.Stands.{TreeOf}
 use Rattle.text.specs.Typing.{listingOf}
-use Rattle.text.specs.Entered.{Begins}
+use Rattle.text.specs.Entered.{StartsWith}
 use Rattle.text.proofs.Every.{all-at}
 use Rattle.text.proofs.Said.{Said, all-said}
 use Rattle.text.proofs.Kinded.{Kinded, text-kinded}
@@ -23,7 +23,7 @@ use Rattle.text.proofs.PartNodes.{part-of, begins-parts, begins-size, p
 use Rattle.text.proofs.Fits.{Fits}
 use Rattle.text.proofs.Counts.{text-count}
 
-module _ (t : Text) (few : sizeOf t ≤ NODES) {u : Text} {b : Block} (p : Begins t (part u b)) where
+module _ (t : Text) (few : sizeOf t ≤ NODES) {u : Text} {b : Block} (p : StartsWith t (part u b)) where
   -- a successor within the part is a node of its routine
   goes : (m : Node) → m .routine ≡ partsOf u → (x : ℕ) → Leads (sizeOf u) (sizeOf u + blockSize b) x → Goes (nodesOf t) m x
   goes m r x (inl e) = inl e

@@ -9,10 +9,10 @@ use lib.ListN.{length}
 use Rattle.words.specs.Inner.Looking.{openCode, closeCode, unread, Ahead}
 use Rattle.words.specs.declared.Found.{Found}
 use Rattle.grammar.specs.Tree.{Item, DEPTH, itemNodes, blockNodes}
-use Rattle.grammar.specs.Inner.Reader.{Before, none, some, and, Around, deep, opening, inside, read, ItemRead, beforeSize, BeforeWithin}
+use Rattle.grammar.specs.Inner.Reader.{SoFar, none, some, and, Outside, deep, opening, inside, read, ItemRead, beforeSize, BeforeWithin}
 use Rattle.grammar.specs.declared.Step.the-variants.{At}
 use Rattle.grammar.proofs.Blocks.{block-bad, block-opens, block-empty, block-goes, so-far, close-span, ahead-item}
-use Rattle.text.specs.Inner.Records.{Room, Holds}
+use Rattle.text.specs.Inner.Records.{Room, HoldsNodes}
 use Rattle.text.specs.Inner.Good.{GoodItem, GoodBlock}
 use Rattle.text.specs.Inner.Writer.{ItemWritten, BlockWritten, beforeNodes, BlockWrites}
 use Rattle.text.proofs.Counts.{item-count, block-count, before-count}
@@ -37,7 +37,7 @@ module _ {s : List ℕ} {at d : ℕ} (g : GoodBlock s at d) {o w : Found} (opens
   }
 
 -- one item more
-and-nodes : (x : Before) (i : Item) (r n next to : ℕ) → next ≡ n + beforeSize x
+and-nodes : (x : SoFar) (i : Item) (r n next to : ℕ) → next ≡ n + beforeSize x
     → beforeNodes (and x i) r n to ≡ beforeNodes x r n next ++ itemNodes i r next to
 unfolding blockNodes
 and-nodes none i r n next to e = let z : next ≡ n = omega arith in rw z
@@ -62,7 +62,7 @@ module _ {s : List ℕ} {at d r n next : ℕ} {old now : List ℕ} {w : Found} (
 
   module _ {e k : ℕ} (x : ItemRead s w d (At e k)) where
     grown : {to : ℕ} {new : List ℕ} → ItemWritten s w d r next to now new → Room (next + k) old → to < 256
-        → Holds old new n (beforeNodes (and (so .goes .items) (x .0)) r n to)
+        → HoldsNodes old new n (beforeNodes (and (so .goes .items) (x .0)) r n to)
     grown {to} {new} it room low =
         let (i, size, far, past, within, least, span) = x in
         let wrote = same-item-written good-item it span in
@@ -71,7 +71,7 @@ module _ {s : List ℕ} {at d r n next : ℕ} {old now : List ℕ} {w : Found} (
         let kept = so .kept in
         let count = item-count i r next to in
         let before = before-count (so .goes .items) r n next in
-        subst (Holds old new n) (sym (and-nodes (so .goes .items) i r n next to (omega arith)))
+        subst (HoldsNodes old new n) (sym (and-nodes (so .goes .items) i r n next to (omega arith)))
         (in-turn (so .bytes (omega arith)) (wrote .bytes (omega arith) low) (omega arith))
 
     pub goes-on : {v : Found} {new : List ℕ} → Ahead s e v → (v .code ≡ closeCode → ⊥) → ItemWritten s w d r next (next + k) now new
@@ -98,9 +98,9 @@ module _ {s : List ℕ} {at d r n next : ℕ} {old now : List ℕ} {w : Found} (
         let goes = block-goes s at d (so .here) (so .size) w (so .goes) (so .after) (At e k) e k x refl in
         go (goes .items) (goes .nodes) (goes .deep-so) (goes .same) (grown it)
       where
-        go : (y : Before) → beforeSize y ≡ so .size + k → BeforeWithin y d
-            → ((a : Around) → deep a + d ≡ DEPTH → read (length s) (opening a) (unread s at) ≡ read (length s) (inside y a) (unread s e))
-            → (Room (next + k) old → to < 256 → Holds old new n (beforeNodes y r n to)) → BlockWritten s at d r n to old new
+        go : (y : SoFar) → beforeSize y ≡ so .size + k → BeforeWithin y d
+            → ((a : Outside) → deep a + d ≡ DEPTH → read (length s) (opening a) (unread s at) ≡ read (length s) (inside y a) (unread s e))
+            → (Room (next + k) old → to < 256 → HoldsNodes old new n (beforeNodes y r n to)) → BlockWritten s at d r n to old new
         go none nodes within same holds = let least = x .5 in absurd (omega arith)
         go (some b) nodes within same holds = record {
           block = b;

@@ -5,7 +5,7 @@ use Prim.Native.Nat.{ℕ}
 use lib.ListN.{length}
 use Rattle.listing.specs.Bytes.{bytesOf}
 use Rattle.listing.specs.Answer.{Answer}
-use Rattle.words.specs.Words.{blank, number, meaning}
+use Rattle.words.specs.Words.{isBlank, number, meaning}
 use Rattle.words.specs.Inner.Looking.{unread}
 use Rattle.order.specs.Rows.{All}
 use Rattle.order.proofs.Lists.{in-all, all-in}
@@ -30,7 +30,7 @@ module _ (old : List ℕ) where
 
   -- what is computed: every row is what is worked out for it
   rows-same : map worked cases ≡ map said cases
-  unfolding reply byRules parse unread meaning number blank typedRules listingOf bytesOf itemSize blockSize itemNodes blockNodes
+  unfolding reply byRules parse unread meaning number isBlank typedRules listingOf bytesOf itemSize blockSize itemNodes blockNodes
   rows-same = refl
 
 each : {A B : Type 0} (f g : A → B) (xs : List A) → map f xs ≡ map g xs → All (λ x. f x ≡ g x) xs

@@ -6,7 +6,7 @@ use lib.ListN.{length, length-append}
 use Rattle.listing.specs.Node.{none as nowhere}
 use Rattle.grammar.specs.Tree.{Item, access, fence, loop, either, Block, one, also, Text, nothing, part}
 use Rattle.grammar.specs.Tree.{partsOf, sizeOf, nodesOf, itemSize, blockSize, itemNodes, blockNodes}
-use Rattle.grammar.specs.Inner.Reader.{Before, none, some, beforeSize}
+use Rattle.grammar.specs.Inner.Reader.{SoFar, none, some, beforeSize}
 use Rattle.text.specs.Inner.Writer.{beforeNodes}
 
 mutual
@@ -29,7 +29,7 @@ mutual
       simp length-append (omega arith)
 
 -- the items of a block so far
-pub before-count : (x : Before) (r n next : ℕ) → length (beforeNodes x r n next) ≡ beforeSize x
+pub before-count : (x : SoFar) (r n next : ℕ) → length (beforeNodes x r n next) ≡ beforeSize x
 before-count none r n next = refl
 before-count (some b) r n next = block-count b r n next
 

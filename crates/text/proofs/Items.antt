@@ -10,11 +10,11 @@ use Rattle.listing.specs.Kinds.{PLAIN, FENCE}
 use Rattle.words.specs.Inner.Looking.{loopCode, eitherCode, fenceCode, accessCode, numberCode, unread, ahead, Ahead}
 use Rattle.words.specs.declared.Found.{Found}
 use Rattle.grammar.specs.Tree.{access, fence, loop, either, Block, itemSize, itemNodes, plain}
-use Rattle.grammar.specs.Inner.Reader.{Around, ofLoop, ofFirst, ofSecond, deep, opening, inside, read, BlockRead, BlockSpan}
+use Rattle.grammar.specs.Inner.Reader.{Outside, ofLoop, ofFirst, ofSecond, deep, opening, inside, read, BlockRead, BlockSpan}
 use Rattle.grammar.specs.declared.Step.the-variants.{At}
 use Rattle.grammar.proofs.Items.{fence-span, location-span, location-bad, loop-span, either-span}
 use Rattle.grammar.proofs.Items.{into-loop, into-either, loop-deep, either-deep, item-other}
-use Rattle.text.specs.Inner.Records.{Put, Wrote, alone}
+use Rattle.text.specs.Inner.Records.{PutNode, WroteNodes, alone}
 use Rattle.text.specs.Inner.Good.{GoodItem, GoodBlock, Halved}
 use Rattle.text.specs.Inner.Writer.{ItemWritten, BlockWritten}
 use Rattle.text.specs.declared.passing.Halves.{Halves}
@@ -23,7 +23,7 @@ use Rattle.text.proofs.Records.{in-turn}
 use Rattle.text.proofs.Good.{item-not-bad, same-block-written}
 
 module _ {s : List ℕ} {w : Found} {d : ℕ} (g : GoodItem s w d) where
-  pub fence-written : {r n next : ℕ} {old new : List ℕ} → w .code ≡ fenceCode → Wrote old new n next (alone r FENCE 0 next)
+  pub fence-written : {r n next : ℕ} {old new : List ℕ} → w .code ≡ fenceCode → WroteNodes old new n next (alone r FENCE 0 next)
       → ItemWritten s w d r n next old new
   unfolding itemNodes
   fence-written e p = record { item = fence; end = w .end; span = fence-span s w d (g .first) e; wrote = p }
@@ -36,7 +36,7 @@ module _ {s : List ℕ} {w : Found} {d : ℕ} (g : GoodItem s w d) where
     location-small = let l = after .found .small number-follows in omega arith
 
     pub access-written : {r k n next : ℕ} {old new : List ℕ} → (w .value < 256 → k ≡ w .value)
-        → Wrote old new n next (alone r k (v .value) next) → (depth : ℕ) → ItemWritten s w depth r n next old new
+        → WroteNodes old new n next (alone r k (v .value) next) → (depth : ℕ) → ItemWritten s w depth r n next old new
     unfolding itemNodes
     access-written {r} {n = n} {next = next} {old = old} {new = new} low p depth =
         let kind = g .first .found .kind e in
@@ -44,7 +44,7 @@ module _ {s : List ℕ} {w : Found} {d : ℕ} (g : GoodItem s w d) where
           item = access (w .value) (v .value);
           end = v .end;
           span = location-span s w v depth (g .first) e after number-follows;
-          wrote = subst (λ (k : ℕ). Wrote old new n next (alone r k (v .value) next)) (low (omega arith)) p;
+          wrote = subst (λ (k : ℕ). WroteNodes old new n next (alone r k (v .value) next)) (low (omega arith)) p;
         }
 
   loop-level : w .code ≡ loopCode → d ≡ 0 → ⊥
@@ -68,7 +68,7 @@ module _ {s : List ℕ} {w : Found} {d : ℕ} (g : GoodItem s w d) where
     is-either no-loop = dec→stable (ℕ-discrete (w .code) eitherCode) (not-other no-loop)
 
   -- what stands in a loop and in an either is good too
-  good-inside : (a : Around) (m : ℕ) → (d ≡ 0 → ⊥) → m ≤ length s → deep a ≡ suc (deep (g .around))
+  good-inside : (a : Outside) (m : ℕ) → (d ≡ 0 → ⊥) → m ≤ length s → deep a ≡ suc (deep (g .around))
       → read (length s) (inside (g .before) (g .around)) (ahead s w) ≡ read (length s) (opening a) (unread s m) → GoodBlock s m (d - 1)
   good-inside a m z within deeper same =
       let l = g .level in
@@ -81,7 +81,7 @@ module _ {s : List ℕ} {w : Found} {d : ℕ} (g : GoodItem s w d) where
         good-inside (ofLoop (g .before) (g .around)) (w .end) (loop-level e) (g .first .found .within) refl
         (into-loop s w d (g .first) (loop-level e) e (g .before) (g .around) (g .level))
 
-    pub loop-written : {r n next : ℕ} {old mid new : List ℕ} → Put old mid n (n + 1) next (plain r (n + 1) next)
+    pub loop-written : {r n next : ℕ} {old mid new : List ℕ} → PutNode old mid n (n + 1) next (plain r (n + 1) next)
         → BlockWritten s (w .end) (d - 1) r (n + 1) n mid new → ItemWritten s w d r n next old new
     unfolding itemNodes
     loop-written p q = record {
@@ -136,10 +136,10 @@ module _ {s : List ℕ} {w : Found} {d : ℕ} (g : GoodItem s w d) where
         }
 
     pub either-written : {r n next : ℕ} {old o1 o2 o3 new : List ℕ} {h : Halves} → Halved s w d n h
-        → Put old o1 n (n + 1) (h .other) (plain r (n + 1) (h .other))
+        → PutNode old o1 n (n + 1) (h .other) (plain r (n + 1) (h .other))
         → BlockWritten s (w .end) (d - 1) r (n + 1) (h .meet) o1 o2
         → BlockWritten s (h .second) (d - 1) r (h .other) (h .meet) o2 o3
-        → Wrote o3 new (h .meet) next (alone r PLAIN 0 next)
+        → WroteNodes o3 new (h .meet) next (alone r PLAIN 0 next)
         → ItemWritten s w d r n next old new
     unfolding itemNodes itemSize
     either-written {r} {n} {next} {h = h} y p x x' p' =

@@ -10,7 +10,7 @@ use lib.Seq.{getD-append-add}
 use Rattle.listing.specs.Limits.{NODES}
 use Rattle.listing.specs.Node.{none, Listing, node, blank}
 use Rattle.grammar.specs.Tree.{Block, Text, nothing, part, blockSize, blockNodes, partsOf, sizeOf, nodesOf}
-use Rattle.text.specs.Entered.{Begins, whole, cut, Parted}
+use Rattle.text.specs.Entered.{StartsWith, whole, cut, PartsInRows}
 use Rattle.text.proofs.Every.{all-at}
 use Rattle.text.proofs.Placed.{Among, Placed, part-placed}
 use Rattle.text.proofs.Counts.{block-count, text-count}
@@ -35,25 +35,25 @@ has-back {L} {n} {k} M K e h = record { at = at }
         ap (node L) place ∙ h .at (length M + j) (omega (arith, length-append M K)) ∙ getD-append-add M K j blank
 
 -- ── The first parts of a text ───────────────────────────────────────────────
-pub begins-parts : {t u : Text} → Begins t u → partsOf u ≤ partsOf t
+pub begins-parts : {t u : Text} → StartsWith t u → partsOf u ≤ partsOf t
 begins-parts whole = omega arith
 begins-parts (cut p) = let h = begins-parts p in omega arith
 
-pub begins-size : {t u : Text} → Begins t u → sizeOf u ≤ sizeOf t
+pub begins-size : {t u : Text} → StartsWith t u → sizeOf u ≤ sizeOf t
 begins-size whole = omega arith
 begins-size (cut p) = let h = begins-size p in omega arith
 
 -- as many parts, the same parts
-begins-all : {t v : Text} → Begins t v → partsOf v ≡ partsOf t → v ≡ t
+begins-all : {t v : Text} → StartsWith t v → partsOf v ≡ partsOf t → v ≡ t
 begins-all whole e = refl
 begins-all (cut p) e = let h = begins-parts p in absurd (omega arith)
 
-begins-one : {t u v : Text} → Begins t u → Begins t v → partsOf u ≡ partsOf v → u ≡ v
+begins-one : {t u v : Text} → StartsWith t u → StartsWith t v → partsOf u ≡ partsOf v → u ≡ v
 begins-one whole q e = sym (begins-all q (sym e))
 begins-one (cut p) whole e = let h = begins-parts p in absurd (omega arith)
 begins-one (cut p) (cut q) e = begins-one p q e
 
-begins-has : {t u : Text} → Begins t u → Has (nodesOf t) 0 (nodesOf u)
+begins-has : {t u : Text} → StartsWith t u → Has (nodesOf t) 0 (nodesOf u)
 begins-has {t} whole = has-itself (nodesOf t)
 begins-has (cut {t = t} {u = u} {b = b} p) = record { at = λ j l. List·getD-append (nodesOf t) _ blank (0 + j) (inside j l) ∙ begins-has p .at j l }
   where
@@ -65,7 +65,7 @@ begins-has (cut {t = t} {u = u} {b = b} p) = record { at = λ j l. List·getD-ap
 pub record PartOf (t : Text) (a : ℕ) : Type 0 where
   pub before : Text
   pub block : Block
-  pub begins : Begins t (part before block)
+  pub begins : StartsWith t (part before block)
   pub there : Among (sizeOf before) (sizeOf before + blockSize block) a
 
 pub part-of : (t : Text) (a : ℕ) → a < sizeOf t → PartOf t a
@@ -76,7 +76,7 @@ part-of (part t b) a l = go (decLt a (sizeOf t)) (part-of t a)
     go (yes h) f = let p = f h in record { before = p .before; block = p .block; begins = cut (p .begins); there = p .there }
     go (no h) f = record { before = t; block = b; begins = whole; there = (omega arith, l) }
 
-module _ {t u : Text} {b : Block} (p : Begins t (part u b)) where
+module _ {t u : Text} {b : Block} (p : StartsWith t (part u b)) where
   pub part-has : Has (nodesOf t) (sizeOf u) (blockNodes b (partsOf u) (sizeOf u) none)
   part-has = rw zero-add at (has-back (nodesOf u) _ (text-count u) (begins-has p))
 
@@ -92,7 +92,7 @@ module _ {t u : Text} {b : Block} (p : Begins t (part u b)) where
         rw (e, part-has .at (a - sizeOf u) l) (all-at _ M all blank (a - sizeOf u) l)
 
 -- PART p IS ROUTINE p, WITH ITS NODES IN ONE ROW
-pub text-parted : (t : Text) → sizeOf t ≤ NODES → Parted t
+pub text-parted : (t : Text) → sizeOf t ≤ NODES → PartsInRows t
 text-parted t few u b p a l = (only, λ h. placed-at p few a h .routine)
   where
     only : node (nodesOf t) a .routine ≡ partsOf u → Among (sizeOf u) (sizeOf u + blockSize b) a

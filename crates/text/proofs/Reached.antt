@@ -14,7 +14,7 @@ use Rattle.order.proofs.Lists.{row-join}
 use Rattle.grammar.specs.Tree.{Item, access, fence, loop, either, Block, one, also, Text, part, itemSize, blockSize, itemNodes, blockNodes}
 use Rattle.grammar.specs.Tree.{made, plain, partsOf, sizeOf, nodesOf}
 use Rattle.grammar.proofs.Sizes.{item-some, block-some}
-use Rattle.text.specs.Entered.{Begins, Entry, Reached, Entered}
+use Rattle.text.specs.Entered.{StartsWith, Lowest, Reached, Entered}
 use Rattle.text.proofs.Every.{of-plain}
 use Rattle.text.proofs.Placed.{Among}
 use Rattle.text.proofs.PartNodes.{Has, has-front, has-back, begins-size, part-of, part-has, placed-at, text-parted}
@@ -120,9 +120,10 @@ module _ (L : Listing) where
         (block-whole b r n m (omega arith) (has-front B I h))
         (item-whole i r m next (omega arith) (has-back B I (block-count b r n m) h))
 
-module _ (t : Text) (few : sizeOf t ≤ NODES) {u : Text} {b : Block} (p : Begins t (part u b)) (a : ℕ) (h : Among (sizeOf u) (sizeOf u + blockSize b) a) where
+module _ (t : Text) (few : sizeOf t ≤ NODES) {u : Text} {b : Block} (p : StartsWith t (part u b)) (a : ℕ)
+    (h : Among (sizeOf u) (sizeOf u + blockSize b) a) where
   -- a part's first node is its routine's lowest-numbered
-  part-entry : Entry (nodesOf t) (node (nodesOf t) a .routine) (sizeOf u)
+  part-entry : Lowest (nodesOf t) (node (nodesOf t) a .routine) (sizeOf u)
   part-entry =
       let some : 1 ≤ blockSize b = block-some b in
       let here = placed-at p few a h .routine in

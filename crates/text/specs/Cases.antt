@@ -12,17 +12,17 @@ use Rattle.grammar.specs.Tree.{made}
 use Rattle.text.specs.Typing.{Typed}
 
 -- what is answered: the listing of so many parts with these nodes is written, or the number and place of a refusal
-pub data Outcome : Type 0 where
-  listed : ℕ → Listing → Outcome
-  refused : ℕ → ℕ → Outcome
+pub data Reply : Type 0 where
+  listed : ℕ → Listing → Reply
+  refused : ℕ → ℕ → Reply
 
 -- a row: a text, the length of the lent buffer, and what is answered
 pub record Case : Type 0 where
   pub text : List ℕ
   pub room : ℕ
-  pub outcome : Outcome
+  pub outcome : Reply
 
-abbrev of : List ℕ → ℕ → Outcome → Case
+abbrev of : List ℕ → ℕ → Reply → Case
 of s room o = record { text = s; room = room; outcome = o }
 
 -- s, n times over
@@ -124,11 +124,11 @@ cases =
     ∷ []
 
 -- what a row's answer is in numbers, and what the buffer holds then
-abbrev pub answered : Outcome → Answer
+abbrev pub answered : Reply → Answer
 answered (listed f L) = done 0 0 (length (bytesOf 1 f L))
 answered (refused k p) = refusal k p
 
-abbrev pub holds : Outcome → List ℕ → List ℕ
+abbrev pub holds : Reply → List ℕ → List ℕ
 holds (listed f L) old = filled (bytesOf 1 f L) old
 holds (refused k p) old = old
 

@@ -2,7 +2,7 @@
 ghost use mathlib.Core.Path.{_≡_};
 ghost use Prim.Native.Nat.{_<_};
 ghost use Rattle.grammar.specs.Tree.{made, plain};
-ghost use Rattle.text.specs.Inner.Records.{Put, Wrote, alone};
+ghost use Rattle.text.specs.Inner.Records.{PutNode, WroteNodes, alone};
 use listing::Listing;
 use listing::NONE;
 use listing::PLAIN;
@@ -32,7 +32,7 @@ fn put(
     second: usize,
 )
     requires { ⌜ location < 65536 ⌝ }
-    ensures { λ _. ⌜ Put (now (out .entry)) (now (out .exit)) n first second (made routine kind location first second) ⌝ }
+    ensures { λ _. ⌜ PutNode (now (out .entry)) (now (out .exit)) n first second (made routine kind location first second) ⌝ }
 {
     if Listing::NODES <= n {
         return;
@@ -48,14 +48,14 @@ fn put(
 // The node n, which leads to `to` alone.
 pub fn put_single(out: &mut [u8], n: usize, routine: u8, kind: u8, location: usize, to: usize)
     requires { ⌜ location < 65536 ⌝ }
-    ensures { λ _. ⌜ Wrote (now (out .entry)) (now (out .exit)) n to (alone routine kind location to) ⌝ }
+    ensures { λ _. ⌜ WroteNodes (now (out .entry)) (now (out .exit)) n to (alone routine kind location to) ⌝ }
 {
     put(&mut *out, n, routine, kind, location, to, NOWHERE);
 }
 
 // The plain node n, which leads to a and b: of two successors the smaller is written first.
 pub fn put_plain(out: &mut [u8], n: usize, routine: u8, a: usize, b: usize)
-    ensures { λ _. ⌜ Put (now (out .entry)) (now (out .exit)) n a b (plain routine a b) ⌝ }
+    ensures { λ _. ⌜ PutNode (now (out .entry)) (now (out .exit)) n a b (plain routine a b) ⌝ }
 {
     if a < b {
         put(&mut *out, n, routine, PLAIN, 0, a, b);

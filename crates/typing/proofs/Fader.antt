@@ -4,7 +4,7 @@ use mathlib.Core.List.{List, [], _∷_}
 use Prim.Native.Nat.{ℕ}
 use Rattle.listing.specs.Ascii.{bytes}
 use Rattle.listing.specs.Kinds.{READ, WRITE}
-use Rattle.words.specs.Words.{blank, meaning, number}
+use Rattle.words.specs.Words.{isBlank, meaning, number}
 use Rattle.words.specs.Inner.Looking.{unread}
 use Rattle.listing.specs.Bytes.{bytesOf}
 use Rattle.lines.specs.Text.{decimal}
@@ -25,7 +25,7 @@ tree-of : Text
 tree-of = part (part nothing (two WRITE 1 2)) (two READ 2 1)
 
 read-so : parse fader ≡ tree tree-of
-unfolding fader tree-of two parse unread blank meaning number
+unfolding fader tree-of two parse unread isBlank meaning number
 read-so = refl
 
 -- THE FADER AS IT IS TYPED
@@ -38,5 +38,5 @@ fader-typed = writes tree-of (found-tree fader tree-of read-so) refl
 
 -- AND WITHOUT ITS LAST LOCATION: byte 36 is the brace that can't stand there
 pub fader-refused : TypedOutput (bytes "routine { w 1 w 2 }\nroutine { r 2 r }\n") (bytes "REFUSED 17 36\n")
-unfolding parse unread blank meaning number decimal
+unfolding parse unread isBlank meaning number decimal
 fader-refused = bad-text 36 (found-bad (bytes "routine { w 1 w 2 }\nroutine { r 2 r }\n") 36 refl)

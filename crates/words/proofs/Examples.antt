@@ -4,7 +4,7 @@ use mathlib.Core.List.{List, [], _∷_, _++_, map}
 use Prim.Native.Nat.{ℕ}
 use Rattle.listing.specs.Ascii.{bytes}
 use Rattle.listing.specs.Kinds.{READ, WRITE, RMW}
-use Rattle.words.specs.Words.{Routine, Loop, Either, Open, Close, Fence, Access, Number, Other, blank, words, number, meaning}
+use Rattle.words.specs.Words.{Routine, Loop, Either, Open, Close, Fence, Access, Number, Other, isBlank, words, number, meaning}
 use Rattle.words.specs.Inner.Looking.{Mark, mark, marks}
 
 abbrev Row : Type 0
@@ -35,5 +35,5 @@ rows =
 
 -- EACH TEXT HAS ITS WORDS, AND EACH WORD SAYS WHAT IT SHOULD
 pub words-said : map (λ (r : Row). marks (words (r .0))) rows ≡ map (λ (r : Row). r .1) rows
-unfolding words blank meaning number
+unfolding words isBlank meaning number
 words-said = refl

@@ -10,12 +10,12 @@ use lib.Seq.{drop-drop, getD-drop}
 use borrow.Author.Tests.{ne-eqb}
 use Rattle.listing.proofs.Stores.{next}
 use Rattle.words.specs.declared.tell.Saying.{Saying}
-use Rattle.words.specs.Words.{word, blank, begins, longer, wordsFrom, meaning}
-use Rattle.words.specs.Inner.Looking.{mark, marks, nothingCode, unread, ahead, Ahead, Skips, Ends}
-use Rattle.words.specs.Inner.Telling.{Says}
+use Rattle.words.specs.Words.{wordAt, isBlank, begins, longer, wordsFrom, meaning}
+use Rattle.words.specs.Inner.Looking.{mark, marks, nothingCode, unread, ahead, Ahead, Skips, WordEnds}
+use Rattle.words.specs.Inner.Telling.{SaysWord}
 
 -- ── Blanks ──────────────────────────────────────────────────────────────────
-pub past-blank : (s : List ℕ) (i : ℕ) → i < length s → blank (getD s i 0) ≡ true → unread s i ≡ unread s (i + 1)
+pub past-blank : (s : List ℕ) (i : ℕ) → i < length s → isBlank (getD s i 0) ≡ true → unread s i ≡ unread s (i + 1)
 unfolding unread
 past-blank s i h b = rw (next s i 0 h, b)
 
@@ -26,21 +26,21 @@ no-word s i h = rw (drop-of-length-le s {i = i} h)
 
 -- ── A word ──────────────────────────────────────────────────────────────────
 -- one byte more is no blank
-pub one-more : (s : List ℕ) (at i : ℕ) → ((k : ℕ) → at ≤ k → k < i → blank (getD s k 0) ≡ false) → blank (getD s i 0) ≡ false
-    → (k : ℕ) → at ≤ k → k < i + 1 → blank (getD s k 0) ≡ false
+pub one-more : (s : List ℕ) (at i : ℕ) → ((k : ℕ) → at ≤ k → k < i → isBlank (getD s k 0) ≡ false) → isBlank (getD s i 0) ≡ false
+    → (k : ℕ) → at ≤ k → k < i + 1 → isBlank (getD s k 0) ≡ false
 one-more s at i solid h k low high = go (decLe i k)
   where
-    go : Dec (i ≤ k) → blank (getD s k 0) ≡ false
+    go : Dec (i ≤ k) → isBlank (getD s k 0) ≡ false
     go (yes l) = let here : k ≡ i = omega arith in rw here h
     go (no l) = solid k low (omega arith)
 
 -- a byte that is no blank makes the word right after it longer
-joins : (p b c : ℕ) (t : List ℕ) → blank b ≡ false → blank c ≡ false → wordsFrom p (b ∷ c ∷ t) ≡ longer p b (wordsFrom (p + 1) (c ∷ t))
+joins : (p b c : ℕ) (t : List ℕ) → isBlank b ≡ false → isBlank c ≡ false → wordsFrom p (b ∷ c ∷ t) ≡ longer p b (wordsFrom (p + 1) (c ∷ t))
 joins p b c t hb hc = rw (hb, hc)
 
 -- n bytes that are no blanks are one word where no more follow
-pub one-word : (n p : ℕ) (l : List ℕ) → 0 < n → n ≤ length l → ((k : ℕ) → k < n → blank (getD l k 0) ≡ false) → begins (drop n l) ≡ false
-    → wordsFrom p l ≡ word p (take n l) ∷ wordsFrom (p + n) (drop n l)
+pub one-word : (n p : ℕ) (l : List ℕ) → 0 < n → n ≤ length l → ((k : ℕ) → k < n → isBlank (getD l k 0) ≡ false) → begins (drop n l) ≡ false
+    → wordsFrom p l ≡ wordAt p (take n l) ∷ wordsFrom (p + n) (drop n l)
 one-word zero p l some fits solid stops = absurd (omega arith)
 one-word (suc n) p [] some fits solid stops = absurd (omega arith)
 one-word (suc zero) p (b ∷ l) some fits solid stops = rw (solid 0 (omega arith), stops)
@@ -48,9 +48,9 @@ one-word (suc (suc n)) p (b ∷ []) some fits solid stops = absurd (omega arith)
 one-word (suc (suc n)) p (b ∷ c ∷ l) some fits solid stops =
     joins p b c l (solid 0 (omega arith)) (solid 1 (omega arith))
     ∙ ap (longer p b) (one-word (suc n) (p + 1) (c ∷ l) (omega arith) (omega arith) (λ k h. solid (suc k) (omega arith)) stops)
-    ∙ ap (λ (m : ℕ). word p (b ∷ c ∷ take n l) ∷ wordsFrom m (drop n l)) (omega arith)
+    ∙ ap (λ (m : ℕ). wordAt p (b ∷ c ∷ take n l) ∷ wordsFrom m (drop n l)) (omega arith)
 
-module _ (s : List ℕ) (a e : ℕ) (ends : Ends s a e) (some : a < e) where
+module _ (s : List ℕ) (a e : ℕ) (ends : WordEnds s a e) (some : a < e) where
   stopped : begins (drop e s) ≡ false
   stopped = go (decLe (length s) e)
     where
@@ -66,7 +66,7 @@ module _ (s : List ℕ) (a e : ℕ) (ends : Ends s a e) (some : a < e) where
       let rest : drop (e - a) (drop a s) ≡ drop e s = drop-drop (e - a) a s ∙ ap (λ (k : ℕ). drop k s) up in
       ap marks
       (one-word (e - a) a (drop a s) (omega arith) (simp length-drop (omega arith))
-      (λ k h. ap blank (getD-drop a s k 0) ∙ ends .solid (a + k) (omega arith) (omega arith))
+      (λ k h. ap isBlank (getD-drop a s k 0) ∙ ends .solid (a + k) (omega arith) (omega arith))
       (ap begins rest ∙ stopped))
       ∙ rw (rest, up)
 
@@ -83,7 +83,7 @@ none-found s at r passed h =
     }
 
 -- THE WORD THAT BEGINS THERE
-pub one-found : (s : List ℕ) (at a e : ℕ) (w : Saying) → Skips s at a → a < length s → Ends s a e → Says (take (e - a) (drop a s)) w
+pub one-found : (s : List ℕ) (at a e : ℕ) (w : Saying) → Skips s at a → a < length s → WordEnds s a e → SaysWord (take (e - a) (drop a s)) w
     → Ahead s at (record { code = w .code; value = w .value; start = a; end = e })
 unfolding ahead
 one-found s at a e w passed h ends told =
@@ -104,5 +104,5 @@ one-found s at a e w passed h ends told =
     go (no k) = omega arith
     go (yes k) =
         let here : e ≡ a = let m : a ≤ e = ends .later in omega arith in
-        let stops = subst (λ (n : ℕ). blank (getD s n 0) ≡ true) here (ends .stops (omega arith)) in
+        let stops = subst (λ (n : ℕ). isBlank (getD s n 0) ≡ true) here (ends .stops (omega arith)) in
         absurd (true≢false (sym stops ∙ passed .stops h))

@@ -24,12 +24,12 @@ use Rattle.words.specs.Words.{
   Number,
   Other,
   DIGITS,
-  word,
+  wordAt,
   words,
   begins,
-  blank,
-  digit,
-  digits,
+  isBlank,
+  isDigit,
+  allDigits,
   valueFrom,
   number,
   same,
@@ -47,27 +47,27 @@ Solid w = Each w 0 (length w) false
 -- ── The test ────────────────────────────────────────────────────────────────
 abbrev solid : List ℕ → Bool
 solid [] = true
-solid (b ∷ w) = not (blank b) && solid w
+solid (b ∷ w) = not (isBlank b) && solid w
 
 abbrev whole : List ℕ → Bool
 whole w = leb 1 (length w) && solid w
 
 no-blank : (w : List ℕ) → solid w ≡ true → Solid w
 no-blank [] e k low high = absurd (omega arith)
-no-blank (b ∷ w) e zero low high = not-true (blank b) (and-both (not (blank b)) (solid w) e .0)
-no-blank (b ∷ w) e (suc k) low high = no-blank w (and-both (not (blank b)) (solid w) e .1) k (omega arith) (omega arith)
+no-blank (b ∷ w) e zero low high = not-true (isBlank b) (and-both (not (isBlank b)) (solid w) e .0)
+no-blank (b ∷ w) e (suc k) low high = no-blank w (and-both (not (isBlank b)) (solid w) e .1) k (omega arith) (omega arith)
 
 -- ── What says something ─────────────────────────────────────────────────────
-digit-no-blank : (b : ℕ) → digit b ≡ true → not (blank b) ≡ true
-unfolding blank
+digit-no-blank : (b : ℕ) → isDigit b ≡ true → not (isBlank b) ≡ true
+unfolding isBlank
 digit-no-blank b e =
     let low = from-zero-on b e in
     rw (ne-eqb b 0x20 (λ z. omega arith), ne-eqb b 0x0D (λ z. omega arith), ne-eqb b 0x0A (λ z. omega arith))
 
-digits-solid : (w : List ℕ) → digits w ≡ true → solid w ≡ true
+digits-solid : (w : List ℕ) → allDigits w ≡ true → solid w ≡ true
 digits-solid [] e = refl
 digits-solid (b ∷ w) e =
-    let both = and-both (digit b) (digits w) e in
+    let both = and-both (isDigit b) (allDigits w) e in
     rw (digit-no-blank b (both .0), digits-solid w (both .1))
 
 number-whole : (w : List ℕ) → number w ≡ true → whole w ≡ true
@@ -75,7 +75,7 @@ unfolding number
 number-whole w e =
     let both = and-both (leb 1 (length w) && leb (length w) DIGITS) _ e in
     let some = and-both (leb 1 (length w)) (leb (length w) DIGITS) (both .0) .0 in
-    let all = digits-solid w (and-both (digits w) _ (both .1) .0) in
+    let all = digits-solid w (and-both (allDigits w) _ (both .1) .0) in
     rw (some, all)
 
 module _ (w : List ℕ) where
@@ -91,7 +91,7 @@ module _ (w : List ℕ) where
   spelled x t {y} h = asked (same w (bytes x)) t y (λ e. ap whole (same-is w (bytes x) e) ∙ h)
 
   says-whole : Shows (meaning w)
-  unfolding meaning blank
+  unfolding meaning isBlank
   says-whole =
       spelled "routine" Routine refl
       (spelled "loop" Loop refl
@@ -112,7 +112,7 @@ module _ (w : List ℕ) where
       (no-blank w (both .1), leb-true 1 (length w) (both .0))
 
   -- AND IS A TEXT OF ONE WORD
-  pub says-word : (meaning w ≡ Other → ⊥) → words w ≡ word 0 w ∷ []
+  pub says-word : (meaning w ≡ Other → ⊥) → words w ≡ wordAt 0 w ∷ []
   unfolding words
   says-word h =
       let is = says-solid h in

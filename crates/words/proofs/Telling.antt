@@ -24,7 +24,7 @@ use Rattle.words.specs.Inner.Looking.{
   otherCode,
   tokenOf,
 }
-use Rattle.words.specs.Inner.Telling.{NOWHERE, codeOf, accessOf, locationOf, Says}
+use Rattle.words.specs.Inner.Telling.{NOWHERE, codeOf, accessOf, locationOf, SaysWord}
 use Rattle.words.proofs.Digits.{small-number}
 
 -- ── One question after the other ────────────────────────────────────────────
@@ -95,7 +95,7 @@ module _ (w : List ℕ) where
           rw (le-leb (valueFrom 0 w) NOWHERE (omega arith), ne-eqb (valueFrom 0 w) NOWHERE (λ z. omega arith))
 
   -- THE NUMBERS SAY WHAT THE WORD SAYS: a code, or the kind of an access, or a location, or nothing
-  pub says-itself : {c : ℕ} → c ≡ codeOf w → (c ≡ otherCode → ⊥) → Says w (record { code = c; value = 0 })
+  pub says-itself : {c : ℕ} → c ≡ codeOf w → (c ≡ otherCode → ⊥) → SaysWord w (record { code = c; value = 0 })
   says-itself {c} e h =
       let some : 0 < c = omega (arith, ltb-true nothingCode (codeOf w) (by-code .fits)) in
       record {
@@ -109,7 +109,7 @@ module _ (w : List ℕ) where
     past-code : meaning w ≡ beyond
     past-code = nothing-said by-code (sym code ∙ no-code)
 
-    pub says-access : {k : ℕ} → k ≡ accessOf w → (k ≡ PLAIN → ⊥) → Says w (record { code = accessCode; value = k })
+    pub says-access : {k : ℕ} → k ≡ accessOf w → (k ≡ PLAIN → ⊥) → SaysWord w (record { code = accessCode; value = k })
     unfolding tokenOf
     says-access {k} e h = record {
       token = rw e (sym (past-code ∙ something by-access (λ z. h (e ∙ z))));
@@ -122,7 +122,7 @@ module _ (w : List ℕ) where
       past-access : meaning w ≡ located
       past-access = past-code ∙ nothing-said by-access (sym kind ∙ no-access)
 
-      pub says-location : {n : ℕ} → n ≡ locationOf w → (n ≡ NOWHERE → ⊥) → Says w (record { code = numberCode; value = n })
+      pub says-location : {n : ℕ} → n ≡ locationOf w → (n ≡ NOWHERE → ⊥) → SaysWord w (record { code = numberCode; value = n })
       unfolding tokenOf
       says-location {n} e h = record {
         token = rw e (sym (past-access ∙ something by-location (λ z. h (e ∙ z))));
@@ -131,7 +131,7 @@ module _ (w : List ℕ) where
         small = λ _. omega (arith, leb-true (locationOf w) NOWHERE (by-location .fits));
       }
 
-      pub says-other : {n : ℕ} → n ≡ locationOf w → n ≡ NOWHERE → Says w (record { code = otherCode; value = 0 })
+      pub says-other : {n : ℕ} → n ≡ locationOf w → n ≡ NOWHERE → SaysWord w (record { code = otherCode; value = 0 })
       unfolding tokenOf
       says-other {n} e h = record {
         token = sym (past-access ∙ nothing-said by-location (sym e ∙ h));

@@ -13,22 +13,22 @@ pub record Word : Type 0 where
   pub place : ℕ
   pub bytes : List ℕ
 
-abbrev pub word : ℕ → List ℕ → Word
-word p w = record { place = p; bytes = w }
+abbrev pub wordAt : ℕ → List ℕ → Word
+wordAt p w = record { place = p; bytes = w }
 
 -- "space, CR or LF"
-unfoldable pub blank : ℕ → Bool
-blank b = eqb b 0x20 || (eqb b 0x0D || eqb b 0x0A)
+unfoldable pub isBlank : ℕ → Bool
+isBlank b = eqb b 0x20 || (eqb b 0x0D || eqb b 0x0A)
 
 -- a word stands right at the start
 abbrev pub begins : List ℕ → Bool
 begins [] = false
-begins (b ∷ s) = not (blank b)
+begins (b ∷ s) = not (isBlank b)
 
 -- the first word is longer by the byte b, which stands at p
 abbrev pub longer : ℕ → ℕ → List Word → List Word
 longer p b [] = []
-longer p b (w ∷ ws) = word p (b ∷ w .bytes) ∷ ws
+longer p b (w ∷ ws) = wordAt p (b ∷ w .bytes) ∷ ws
 
 -- "A word (braces and numbers too) is a longest run without space, CR or LF": a byte that is no blank makes the word right after it
 -- longer, or is one by itself. These are the words of s, whose first byte is byte p of the text
@@ -36,18 +36,18 @@ abbrev pub wordsFrom : ℕ → List ℕ → List Word
 wordsFrom p [] = []
 wordsFrom p (b ∷ s) =
     let ws = wordsFrom (p + 1) s in
-    cond (blank b) ws (cond (begins s) (longer p b ws) (word p (b ∷ []) ∷ ws))
+    cond (isBlank b) ws (cond (begins s) (longer p b ws) (wordAt p (b ∷ []) ∷ ws))
 
 unfoldable pub words : List ℕ → List Word
 words s = wordsFrom 0 s
 
 -- ── Numbers ─────────────────────────────────────────────────────────────────
-abbrev pub digit : ℕ → Bool
-digit b = leb 0x30 b && leb b 0x39
+abbrev pub isDigit : ℕ → Bool
+isDigit b = leb 0x30 b && leb b 0x39
 
-abbrev pub digits : List ℕ → Bool
-digits [] = true
-digits (b ∷ w) = digit b && digits w
+abbrev pub allDigits : List ℕ → Bool
+allDigits [] = true
+allDigits (b ∷ w) = isDigit b && allDigits w
 
 -- the number that digits say, after those that say n
 abbrev pub valueFrom : ℕ → List ℕ → ℕ
@@ -64,7 +64,7 @@ FARTHEST = 65535
 
 -- "a location number (1 to 5 digits, at most 65535)"
 unfoldable pub number : List ℕ → Bool
-number w = (leb 1 (length w) && leb (length w) DIGITS) && (digits w && leb (valueFrom 0 w) FARTHEST)
+number w = (leb 1 (length w) && leb (length w) DIGITS) && (allDigits w && leb (valueFrom 0 w) FARTHEST)
 
 -- ── What words say ──────────────────────────────────────────────────────────
 pub data Token : Type 0 where

@@ -4,8 +4,8 @@ mod tell;
 ghost use mathlib.Core.Path.{_≡_};
 ghost use Prim.Native.Nat.{_≤_};
 ghost use lib.ListN.{length};
-ghost use Rattle.words.specs.Words.{blank};
-ghost use Rattle.words.specs.Inner.Looking.{Ahead, Skips, Ends};
+ghost use Rattle.words.specs.Words.{isBlank};
+ghost use Rattle.words.specs.Inner.Looking.{Ahead, Skips, WordEnds};
 
 // A word that was found: what it says, the number it says it of, and where it starts and ends.
 pub struct Found {
@@ -37,7 +37,7 @@ pub const NUMBER: u8 = 8;
 pub const OTHER: u8 = 9;
 
 fn is_blank(b: u8) -> bool
-    ensures { λ r. ⌜ r ≡ blank b ⌝ }
+    ensures { λ r. ⌜ r ≡ isBlank b ⌝ }
 {
     if b == b' ' {
         return true;
@@ -67,7 +67,7 @@ fn skip(s: &[u8], at: usize) -> usize
 // Past the word at `at`.
 fn word_end(s: &[u8], at: usize) -> usize
     requires { ⌜ at ≤ length (now s) ⌝ }
-    ensures { λ r. ⌜ Ends (now (s .entry)) at r ⌝ }
+    ensures { λ r. ⌜ WordEnds (now (s .entry)) at r ⌝ }
 {
     let mut i = at;
     while i < s.len() {

@@ -1,8 +1,8 @@
 // What a word says: a thing by itself, an access, a location, or nothing that a text has.
 ghost use mathlib.Core.Path.{_≡_};
 ghost use mathlib.Core.Bool.{cond};
-ghost use Rattle.words.specs.Words.{digit, same};
-ghost use Rattle.words.specs.Inner.Telling.{Says, codeOf, accessOf, locationFrom, locationOf};
+ghost use Rattle.words.specs.Words.{isDigit, same};
+ghost use Rattle.words.specs.Inner.Telling.{SaysWord, codeOf, accessOf, locationFrom, locationOf};
 use crate::ACCESS;
 use crate::CLOSE;
 use crate::EITHER;
@@ -83,7 +83,7 @@ fn access_of(w: &[u8]) -> u8
 }
 
 fn is_digit(b: u8) -> bool
-    ensures { λ r. ⌜ r ≡ digit b ⌝ }
+    ensures { λ r. ⌜ r ≡ isDigit b ⌝ }
 {
     if b < b'0' {
         return false;
@@ -127,7 +127,7 @@ fn location_of(w: &[u8]) -> usize
 
 // What a word says.
 pub fn meaning(w: &[u8]) -> Saying
-    ensures { λ r. ⌜ Says (now (w .entry)) r ⌝ }
+    ensures { λ r. ⌜ SaysWord (now (w .entry)) r ⌝ }
 {
     let code = code_of(w);
     if code != OTHER {

@@ -32,23 +32,23 @@ use Rattle.grammar.specs.declared.Step.{Step}
 use Rattle.grammar.specs.declared.Step.the-variants.{At, Bad}
 
 -- the items of a block read so far
-pub data Before : Type 0 where
-  none : Before
-  some : Block → Before
+pub data SoFar : Type 0 where
+  none : SoFar
+  some : Block → SoFar
 
-abbrev pub and : Before → Item → Before
+abbrev pub and : SoFar → Item → SoFar
 and none i = some (one i)
 and (some b) i = some (also b i)
 
 -- what stands around the block that is read: a part; or a loop, or an either's first or second block, after the items before it
-pub data Around : Type 0 where
-  ofPart : Text → Around
-  ofLoop : Before → Around → Around
-  ofFirst : Before → Around → Around
-  ofSecond : Before → Block → Around → Around
+pub data Outside : Type 0 where
+  ofPart : Text → Outside
+  ofLoop : SoFar → Outside → Outside
+  ofFirst : SoFar → Outside → Outside
+  ofSecond : SoFar → Block → Outside → Outside
 
 -- how deep that is
-abbrev pub deep : Around → ℕ
+abbrev pub deep : Outside → ℕ
 deep (ofPart t) = 0
 deep (ofLoop b a) = suc (deep a)
 deep (ofFirst b a) = suc (deep a)
@@ -58,14 +58,14 @@ pub data State : Type 0 where
   -- between parts
   between : Text → State
   -- before a block's `{`
-  opening : Around → State
+  opening : Outside → State
   -- in a block
-  inside : Before → Around → State
+  inside : SoFar → Outside → State
   -- after `r`, `w` or `u`
-  located : ℕ → Before → Around → State
+  located : ℕ → SoFar → Outside → State
 
 -- a block is read to its `}`
-abbrev pub closed : Block → Around → State
+abbrev pub closed : Block → Outside → State
 closed b (ofPart t) = between (part t b)
 closed b (ofLoop x a) = inside (and x (loop b)) a
 closed b (ofFirst x a) = opening (ofSecond x b a)
@@ -76,7 +76,7 @@ pub data Move : Type 0 where
   to : State → Move
 
 -- one level more, while there is one
-abbrev pub enter : ℕ → Around → Move
+abbrev pub enter : ℕ → Outside → Move
 enter d a = cond (ltb d DEPTH) (to (opening a)) stuck
 
 abbrev pub atBetween : Text → Token → Move
@@ -90,7 +90,7 @@ atBetween t (Access k) = stuck
 atBetween t (Number n) = stuck
 atBetween t Other = stuck
 
-abbrev pub atOpening : Around → Token → Move
+abbrev pub atOpening : Outside → Token → Move
 atOpening a Open = to (inside none a)
 atOpening a Routine = stuck
 atOpening a Loop = stuck
@@ -101,11 +101,11 @@ atOpening a (Access k) = stuck
 atOpening a (Number n) = stuck
 atOpening a Other = stuck
 
-abbrev pub atClose : Before → Around → Move
+abbrev pub atClose : SoFar → Outside → Move
 atClose none a = stuck
 atClose (some b) a = to (closed b a)
 
-abbrev pub atInside : Before → Around → Token → Move
+abbrev pub atInside : SoFar → Outside → Token → Move
 atInside x a (Access k) = to (located k x a)
 atInside x a Fence = to (inside (and x fence) a)
 atInside x a Loop = enter (deep a) (ofLoop x a)
@@ -116,7 +116,7 @@ atInside x a Routine = stuck
 atInside x a (Number n) = stuck
 atInside x a Other = stuck
 
-abbrev pub atLocated : ℕ → Before → Around → Token → Move
+abbrev pub atLocated : ℕ → SoFar → Outside → Token → Move
 atLocated k x a (Number n) = to (inside (and x (access k n)) a)
 atLocated k x a Routine = stuck
 atLocated k x a Loop = stuck
@@ -166,7 +166,7 @@ unfoldable pub parse : List ℕ → Outcome
 parse s = from s (between nothing) 0
 
 -- so many levels are left inside a
-abbrev pub Levels : Around → ℕ → Type 0
+abbrev pub Levels : Outside → ℕ → Type 0
 Levels a depth = deep a + depth ≡ DEPTH
 
 -- the first word of an item was found, or no word is left
@@ -178,43 +178,43 @@ pub record ItemAhead (s : List ℕ) (w : Found) : Type 0 where
 -- the other
 pub record ItemSpan (s : List ℕ) (w : Found) (depth : ℕ) (i : Item) (e : ℕ) : Type 0 where
   pub within : ItemWithin i depth
-  pub same : (x : Before) (a : Around) → Levels a depth → fromWord s (inside x a) w ≡ from s (inside (and x i) a) e
+  pub same : (x : SoFar) (a : Outside) → Levels a depth → fromWord s (inside x a) w ≡ from s (inside (and x i) a) e
 
 -- and one block with its braces between two places
 pub record BlockSpan (s : List ℕ) (at depth : ℕ) (b : Block) (e : ℕ) : Type 0 where
   pub within : BlockWithin b depth
-  pub same : (a : Around) → Levels a depth → from s (opening a) at ≡ from s (closed b a) e
+  pub same : (a : Outside) → Levels a depth → from s (opening a) at ≡ from s (closed b a) e
 
 -- what the item reader says of the item whose first word was found: it reads one item, of n nodes, up to e; or the word at p can't stand
 abbrev pub ItemRead : List ℕ → Found → ℕ → Step → Type 0
 ItemRead s w depth (At e n) =
     (i : Item) × (itemSize i ≡ n) × (w .start + n ≤ e) × (w .end ≤ e) × (e ≤ length s) × (1 ≤ n) × ItemSpan s w depth i e
 ItemRead s w depth (Bad p) =
-    (x : Before) (a : Around) → Levels a depth → fromWord s (inside x a) w ≡ bad p
+    (x : SoFar) (a : Outside) → Levels a depth → fromWord s (inside x a) w ≡ bad p
 
 -- what the block reader says of the block whose `{` is next
 abbrev pub BlockRead : List ℕ → ℕ → ℕ → Step → Type 0
 BlockRead s at depth (At e n) =
     (b : Block) × (blockSize b ≡ n) × (at + n + 2 ≤ e) × (e ≤ length s) × BlockSpan s at depth b e
 BlockRead s at depth (Bad p) =
-    (a : Around) → Levels a depth → from s (opening a) at ≡ bad p
+    (a : Outside) → Levels a depth → from s (opening a) at ≡ bad p
 
-abbrev pub beforeSize : Before → ℕ
+abbrev pub beforeSize : SoFar → ℕ
 beforeSize none = 0
 beforeSize (some b) = blockSize b
 
-abbrev pub BeforeWithin : Before → ℕ → Type 0
+abbrev pub BeforeWithin : SoFar → ℕ → Type 0
 BeforeWithin none d = Unit
 BeforeWithin (some b) d = BlockWithin b d
 
 -- in the block whose `{` was next at `at`, the items of `size` nodes are read up to `here`
 pub record BlockGoes (s : List ℕ) (at depth here size : ℕ) : Type 0 where
-  pub items : Before
+  pub items : SoFar
   pub nodes : beforeSize items ≡ size
   pub deep-so : BeforeWithin items depth
   pub passed : at + 1 + size ≤ here
   pub within : here ≤ length s
-  pub same : (a : Around) → Levels a depth → from s (opening a) at ≡ from s (inside items a) here
+  pub same : (a : Outside) → Levels a depth → from s (opening a) at ≡ from s (inside items a) here
 
 -- what the reader says of a text: how many parts and nodes its tree has, or where it is bad
 abbrev pub TextRead : List ℕ → Step → Type 0

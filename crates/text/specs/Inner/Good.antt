@@ -6,20 +6,20 @@ use lib.ListN.{length}
 use Rattle.words.specs.Inner.Looking.{unread, ahead}
 use Rattle.words.specs.declared.Found.{Found}
 use Rattle.grammar.specs.Tree.{Block, Text, DEPTH, blockSize}
-use Rattle.grammar.specs.Inner.Reader.{Before, Around, deep, opening, inside, tree, read, parse, ItemAhead, BlockSpan}
+use Rattle.grammar.specs.Inner.Reader.{SoFar, Outside, deep, opening, inside, tree, read, parse, ItemAhead, BlockSpan}
 use Rattle.text.specs.declared.passing.Halves.{Halves}
 
 pub record GoodItem (s : List ℕ) (w : Found) (depth : ℕ) : Type 0 where
   pub first : ItemAhead s w
-  pub before : Before
-  pub around : Around
+  pub before : SoFar
+  pub around : Outside
   pub text : Text
   pub level : deep around + depth ≡ DEPTH
   pub good : read (length s) (inside before around) (ahead s w) ≡ tree text
 
 pub record GoodBlock (s : List ℕ) (at depth : ℕ) : Type 0 where
   pub within : at ≤ length s
-  pub around : Around
+  pub around : Outside
   pub text : Text
   pub level : deep around + depth ≡ DEPTH
   pub good : read (length s) (opening around) (unread s at) ≡ tree text

@@ -15,18 +15,18 @@ pub record Room (k : ℕ) (out : List ℕ) : Type 0 where
   pub long : recordAt k ≤ length out
 
 -- a buffer that held `old` holds the records of L from node n on
-pub record Holds (old new : List ℕ) (n : ℕ) (L : Listing) : Type 0 where
+pub record HoldsNodes (old new : List ℕ) (n : ℕ) (L : Listing) : Type 0 where
   pub bytes : new ≡ sets old (recordAt n) (nodesBytes L)
 
 -- node n, which leads to a and b, is put as the record of m, if there is room for it
-pub record Put (old new : List ℕ) (n a b : ℕ) (m : Node) : Type 0 where
+pub record PutNode (old new : List ℕ) (n a b : ℕ) (m : Node) : Type 0 where
   pub kept : length new ≡ length old
-  pub bytes : Room (n + 1) old → a < 256 → b < 256 → Holds old new n (m ∷ [])
+  pub bytes : Room (n + 1) old → a < 256 → b < 256 → HoldsNodes old new n (m ∷ [])
 
 -- the nodes L, whose end leads to `next`, are put from node n on, if there is room for them
-pub record Wrote (old new : List ℕ) (n next : ℕ) (L : Listing) : Type 0 where
+pub record WroteNodes (old new : List ℕ) (n next : ℕ) (L : Listing) : Type 0 where
   pub kept : length new ≡ length old
-  pub bytes : Room (n + length L) old → next < 256 → Holds old new n L
+  pub bytes : Room (n + length L) old → next < 256 → HoldsNodes old new n L
 
 -- one node, which leads to `next` alone
 abbrev pub alone : ℕ → ℕ → ℕ → ℕ → Listing

@@ -6,13 +6,13 @@ use Prim.Native.Nat.{ℕ, _-_, _<_, _≤_}
 use native.Mathlib.Omega.{arith}
 use denote.Ref.{now}
 use lib.ListN.{length, getD}
-use Rattle.words.specs.Words.{blank}
+use Rattle.words.specs.Words.{isBlank}
 use Rattle.words.proofs.Finding.{one-more}
 use Rattle.words.proofs.word_end.Statement.{statement}
 use Rattle.words.proofs.word_end.Tie as tie
 
 abbrev Inv-loop : tie.InvT-loop
-Inv-loop s at i₀ i = (at ≤ i) × (i ≤ length s) × ((k : ℕ) → at ≤ k → k < i → blank (getD s k 0) ≡ false)
+Inv-loop s at i₀ i = (at ≤ i) × (i ≤ length s) × ((k : ℕ) → at ≤ k → k < i → isBlank (getD s k 0) ≡ false)
 
 abbrev μ-loop : tie.MeasureT-loop
 μ-loop s at i₀ i = length s - i

@@ -20,7 +20,7 @@ use Rattle.words.specs.Words.{
   Other,
   Word,
   FARTHEST,
-  blank,
+  isBlank,
   wordsFrom,
   meaning,
 }
@@ -106,11 +106,11 @@ pub record Skips (s : List ℕ) (at r : ℕ) : Type 0 where
   pub later : at ≤ r
   pub within : r ≤ length s
   pub same : unread s at ≡ unread s r
-  pub stops : r < length s → blank (getD s r 0) ≡ false
+  pub stops : r < length s → isBlank (getD s r 0) ≡ false
 
 -- the bytes from `at` up to r are no blanks, and a blank or the text's end follows
-pub record Ends (s : List ℕ) (at r : ℕ) : Type 0 where
+pub record WordEnds (s : List ℕ) (at r : ℕ) : Type 0 where
   pub later : at ≤ r
   pub within : r ≤ length s
-  pub solid : (k : ℕ) → at ≤ k → k < r → blank (getD s k 0) ≡ false
-  pub stops : r < length s → blank (getD s r 0) ≡ true
+  pub solid : (k : ℕ) → at ≤ k → k < r → isBlank (getD s k 0) ≡ false
+  pub stops : r < length s → isBlank (getD s r 0) ≡ true

@@ -7,7 +7,7 @@ use lib.Dec.{leb}
 use Rattle.listing.specs.Kinds.{PLAIN, READ, WRITE, RMW}
 use Rattle.listing.specs.Ascii.{bytes}
 use Rattle.words.specs.declared.tell.Saying.{Saying}
-use Rattle.words.specs.Words.{FARTHEST, digits, valueFrom, number, same, meaning}
+use Rattle.words.specs.Words.{FARTHEST, allDigits, valueFrom, number, same, meaning}
 use Rattle.words.specs.Inner.Looking.{
   nothingCode,
   routineCode,
@@ -42,14 +42,14 @@ NOWHERE = suc FARTHEST
 
 -- the location that bytes say after digits that say n, or NOWHERE
 unfoldable pub locationFrom : ℕ → List ℕ → ℕ
-locationFrom n w = cond (digits w && leb (valueFrom n w) FARTHEST) (valueFrom n w) NOWHERE
+locationFrom n w = cond (allDigits w && leb (valueFrom n w) FARTHEST) (valueFrom n w) NOWHERE
 
 -- the location that a word says, or NOWHERE
 unfoldable pub locationOf : List ℕ → ℕ
 locationOf w = cond (number w) (valueFrom 0 w) NOWHERE
 
 -- the numbers say what the word says
-pub record Says (w : List ℕ) (r : Saying) : Type 0 where
+pub record SaysWord (w : List ℕ) (r : Saying) : Type 0 where
   pub token : tokenOf (r .code) (r .value) ≡ meaning w
   pub some : r .code ≡ nothingCode → ⊥
   pub kind : r .code ≡ accessCode → r .value ≤ RMW
