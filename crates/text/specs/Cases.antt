@@ -117,9 +117,10 @@ cases =
     ∷ of (parts 17) 0 (refused 5 0)
     ∷ of (parts 17 ++ bytes "x") 775 (refused 17 238)
     ∷ of (parts 16 ++ bytes "routine { f x") 775 (refused 17 236)
-    -- 128 nodes pass, 129 don't, and 17 comes before 6
+    -- 128 nodes pass, 129 don't; 5 comes before 6, 6 before 16, and 17 before all
     ∷ of (routine (fences 128)) 775 (listed 1 (fenceNodes 0 127))
     ∷ of (routine (fences 129)) 0 (refused 6 0)
+    ∷ of (parts 16 ++ routine (fences 129)) 0 (refused 5 0)
     ∷ of (routine (fences 129 ++ bytes "{ ")) 0 (refused 17 268)
     ∷ []
 
