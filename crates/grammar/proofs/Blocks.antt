@@ -8,28 +8,8 @@ use Rattle.words.specs.Words.{Close}
 use Rattle.words.specs.Inner.Looking.{openCode, closeCode, tokenOf, Ahead}
 use Rattle.words.specs.declared.Found.{Found}
 use Rattle.grammar.specs.Tree.{Block, BlockWithin}
-use Rattle.grammar.specs.Inner.Reader.{
-  SoFar,
-  none,
-  some,
-  and,
-  Outside,
-  opening,
-  inside,
-  move,
-  bad,
-  onward,
-  from,
-  fromWord,
-  Levels,
-  ItemAhead,
-  BlockSpan,
-  ItemRead,
-  BlockRead,
-  beforeSize,
-  BeforeWithin,
-  BlockGoes,
-}
+use Rattle.grammar.specs.Inner.Reader.{SoFar, none, some, and, Outside, opening, inside, move, bad, onward, from, fromWord, Levels}
+use Rattle.grammar.specs.Inner.Reader.{ItemAhead, BlockSpan, ItemRead, BlockRead, beforeSize, BeforeWithin, BlockGoes}
 use Rattle.grammar.specs.declared.Step.{Step}
 use Rattle.grammar.specs.declared.Step.the-variants.{At, Bad}
 use Rattle.grammar.proofs.Sizes.{block-some, and-size}

@@ -8,27 +8,8 @@ use borrow.Author.Tests.{le-ltb}
 use Rattle.words.specs.Inner.Looking.{loopCode, eitherCode, fenceCode, accessCode, numberCode, tokenOf, Ahead}
 use Rattle.words.specs.declared.Found.{Found}
 use Rattle.grammar.specs.Tree.{access, fence, loop, either, Block, DEPTH, itemSize, ItemWithin}
-use Rattle.grammar.specs.Inner.Reader.{
-  SoFar,
-  Outside,
-  ofLoop,
-  ofFirst,
-  ofSecond,
-  deep,
-  opening,
-  inside,
-  located,
-  stuck,
-  enter,
-  from,
-  fromWord,
-  Levels,
-  ItemAhead,
-  ItemSpan,
-  BlockSpan,
-  ItemRead,
-  BlockRead,
-}
+use Rattle.grammar.specs.Inner.Reader.{SoFar, Outside, ofLoop, ofFirst, ofSecond, deep, opening, inside, located, stuck, enter, from}
+use Rattle.grammar.specs.Inner.Reader.{fromWord, Levels, ItemAhead, ItemSpan, BlockSpan, ItemRead, BlockRead}
 use Rattle.grammar.specs.declared.Step.{Step}
 use Rattle.grammar.specs.declared.Step.the-variants.{At, Bad}
 use Rattle.grammar.proofs.Steps.{lower}

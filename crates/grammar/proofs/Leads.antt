@@ -7,45 +7,10 @@ use native.Mathlib.Omega.{arith}
 use lib.Dec.{ltb}
 use borrow.Author.Tests.{ltb-true}
 use Rattle.words.specs.Words.{Token, Routine, Loop, Either, Open, Close, Fence, Access, Number, Other}
-use Rattle.grammar.specs.Tree.{
-  Item,
-  access,
-  fence,
-  loop,
-  either,
-  Block,
-  itemWords,
-  blockWords,
-  wordsOf,
-  ItemWithin,
-  BlockWithin,
-  TextWithin,
-  DEPTH,
-}
-use Rattle.grammar.specs.Inner.Reader.{
-  SoFar,
-  none,
-  some,
-  and,
-  BeforeWithin,
-  Outside,
-  ofPart,
-  ofLoop,
-  ofFirst,
-  ofSecond,
-  deep,
-  State,
-  between,
-  opening,
-  inside,
-  located,
-  closed,
-  Move,
-  stuck,
-  to,
-  enter,
-  move,
-}
+use Rattle.grammar.specs.Tree.{Item, access, fence, loop, either, Block, itemWords, blockWords, wordsOf, ItemWithin, BlockWithin}
+use Rattle.grammar.specs.Tree.{TextWithin, DEPTH}
+use Rattle.grammar.specs.Inner.Reader.{SoFar, none, some, and, BeforeWithin, Outside, ofPart, ofLoop, ofFirst, ofSecond, deep, State}
+use Rattle.grammar.specs.Inner.Reader.{between, opening, inside, located, closed, Move, stuck, to, enter, move}
 use Rattle.grammar.proofs.Steps.{then, steps}
 
 -- the words that lead to a state

@@ -7,37 +7,12 @@ use lib.ListN.{length}
 use lib.Dec.{eqb}
 use borrow.Author.Tests.{eqb-true}
 use Rattle.words.specs.Words.{Token, Routine, Loop, Either, Open, Close, Fence, Access, Number, Other}
-use Rattle.words.specs.Inner.Looking.{
-  nothingCode,
-  routineCode,
-  loopCode,
-  eitherCode,
-  openCode,
-  closeCode,
-  fenceCode,
-  accessCode,
-  numberCode,
-  tokenOf,
-  ahead,
-}
+use Rattle.words.specs.Inner.Looking.{nothingCode, routineCode, loopCode, eitherCode, openCode, closeCode, fenceCode, accessCode}
+use Rattle.words.specs.Inner.Looking.{numberCode, tokenOf, ahead}
 use Rattle.words.specs.declared.Found.{Found}
 use Rattle.grammar.specs.Tree.{Text}
-use Rattle.grammar.specs.Inner.Reader.{
-  SoFar,
-  Outside,
-  State,
-  between,
-  opening,
-  inside,
-  located,
-  stuck,
-  move,
-  bad,
-  stop,
-  onward,
-  from,
-  fromWord,
-}
+use Rattle.grammar.specs.Inner.Reader.{SoFar, Outside, State, between, opening, inside, located, stuck, move, bad, stop, onward, from}
+use Rattle.grammar.specs.Inner.Reader.{fromWord}
 
 module _ (s : List ℕ) (w : Found) where
   -- a word with the number k was found

@@ -8,17 +8,7 @@ use borrow.Author.Tests.{ne-eqb}
 use Rattle.words.specs.Inner.Looking.{nothingCode, routineCode, tokenOf, ahead, Ahead}
 use Rattle.words.specs.declared.Found.{Found}
 use Rattle.grammar.specs.Tree.{nothing, part, DEPTH}
-use Rattle.grammar.specs.Inner.Reader.{
-  ofPart,
-  between,
-  opening,
-  parse,
-  from,
-  fromWord,
-  BlockRead,
-  TextRead,
-  TextGoes,
-}
+use Rattle.grammar.specs.Inner.Reader.{ofPart, between, opening, parse, from, fromWord, BlockRead, TextRead, TextGoes}
 use Rattle.grammar.specs.declared.Step.{Step}
 use Rattle.grammar.specs.declared.Step.the-variants.{At, Bad}
 use Rattle.grammar.proofs.Moves.{led, left, no-routine}

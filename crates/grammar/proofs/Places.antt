@@ -8,24 +8,8 @@ use Rattle.words.specs.Words.{Word, meaning, words}
 use Rattle.words.specs.Inner.Looking.{marks, unread}
 use Rattle.grammar.specs.Tree.{Text, nothing, wordsOf}
 use Rattle.grammar.specs.Stands.{saying, Reads, Stands, BadAt, word, breaks, BadText, TreeOf}
-use Rattle.grammar.specs.Inner.Reader.{
-  State,
-  between,
-  opening,
-  inside,
-  located,
-  Move,
-  stuck,
-  to,
-  move,
-  Outcome,
-  tree,
-  bad,
-  stop,
-  onward,
-  read,
-  parse,
-}
+use Rattle.grammar.specs.Inner.Reader.{State, between, opening, inside, located, Move, stuck, to, move, Outcome, tree, bad, stop}
+use Rattle.grammar.specs.Inner.Reader.{onward, read, parse}
 use Rattle.grammar.proofs.Steps.{then, steps, after}
 use Rattle.grammar.proofs.Leads.{stateWords, leads, to-inj, not-stuck}
 use Rattle.grammar.proofs.Standing.{Led, saying-append, led-on, tree-reads, reads-tree, led-stands, stands-led}

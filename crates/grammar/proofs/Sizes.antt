@@ -2,23 +2,8 @@
 use mathlib.Core.Path.{_≡_, refl}
 use Prim.Native.Nat.{_+_, _≤_}
 use native.Mathlib.Omega.{arith}
-use Rattle.grammar.specs.Tree.{
-  Item,
-  access,
-  fence,
-  loop,
-  either,
-  Block,
-  one,
-  also,
-  Text,
-  nothing,
-  part,
-  itemSize,
-  blockSize,
-  partsOf,
-  sizeOf,
-}
+use Rattle.grammar.specs.Tree.{Item, access, fence, loop, either, Block, one, also, Text, nothing, part, itemSize, blockSize, partsOf}
+use Rattle.grammar.specs.Tree.{sizeOf}
 use Rattle.grammar.specs.Inner.Reader.{SoFar, none, some, and, beforeSize}
 
 -- one item more

@@ -6,26 +6,8 @@ use Rattle.listing.specs.Ascii.{bytes}
 use Rattle.words.specs.Words.{Token, Word, wordAt, meaning, number}
 use Rattle.grammar.specs.Tree.{Item, access, fence, loop, either, Block, one, also, Text, nothing, part}
 use Rattle.grammar.specs.Stands.{saying, Reads, Stands}
-use Rattle.grammar.specs.Inner.Reader.{
-  SoFar,
-  none,
-  some,
-  and,
-  Outside,
-  ofPart,
-  ofLoop,
-  ofFirst,
-  ofSecond,
-  State,
-  between,
-  opening,
-  inside,
-  located,
-  closed,
-  Move,
-  stuck,
-  to,
-}
+use Rattle.grammar.specs.Inner.Reader.{SoFar, none, some, and, Outside, ofPart, ofLoop, ofFirst, ofSecond, State, between, opening}
+use Rattle.grammar.specs.Inner.Reader.{inside, located, closed, Move, stuck, to}
 use Rattle.grammar.proofs.Steps.{then, steps, steps-append, after, text-steps}
 use Rattle.grammar.proofs.Leads.{stateWords, StateWithin, leads, to-inj, not-stuck}
 

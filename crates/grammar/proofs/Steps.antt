@@ -5,49 +5,10 @@ use Prim.Native.Nat.{ℕ, suc, _+_, _-_, _<_}
 use native.Mathlib.Omega.{arith}
 use borrow.Author.Tests.{lt-ltb}
 use Rattle.words.specs.Words.{Token, Routine, Open, Close}
-use Rattle.grammar.specs.Tree.{
-  Item,
-  access,
-  fence,
-  loop,
-  either,
-  Block,
-  one,
-  also,
-  Text,
-  nothing,
-  part,
-  itemWords,
-  blockWords,
-  wordsOf,
-  ItemWithin,
-  BlockWithin,
-  TextWithin,
-  DEPTH,
-}
-use Rattle.grammar.specs.Inner.Reader.{
-  SoFar,
-  none,
-  some,
-  and,
-  Outside,
-  ofPart,
-  ofLoop,
-  ofFirst,
-  ofSecond,
-  deep,
-  State,
-  between,
-  opening,
-  inside,
-  closed,
-  Move,
-  stuck,
-  to,
-  enter,
-  move,
-  Levels,
-}
+use Rattle.grammar.specs.Tree.{Item, access, fence, loop, either, Block, one, also, Text, nothing, part, itemWords, blockWords}
+use Rattle.grammar.specs.Tree.{wordsOf, ItemWithin, BlockWithin, TextWithin, DEPTH}
+use Rattle.grammar.specs.Inner.Reader.{SoFar, none, some, and, Outside, ofPart, ofLoop, ofFirst, ofSecond, deep, State, between}
+use Rattle.grammar.specs.Inner.Reader.{opening, inside, closed, Move, stuck, to, enter, move, Levels}
 
 -- a row of words from a state
 abbrev pub then : Move → (State → Move) → Move

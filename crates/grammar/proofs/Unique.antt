@@ -9,46 +9,11 @@ use lib.ListN.{length, drop}
 use Rattle.words.specs.Words.{Token, Open, Close, wordsFrom}
 use Rattle.words.specs.Inner.Looking.{unread}
 use Rattle.words.specs.declared.Found.{Found}
-use Rattle.grammar.specs.Tree.{
-  Item,
-  access,
-  fence,
-  loop,
-  either,
-  Block,
-  one,
-  also,
-  Text,
-  nothing,
-  part,
-  itemWords,
-  blockWords,
-  wordsOf,
-  ItemWithin,
-  BlockWithin,
-  DEPTH,
-}
+use Rattle.grammar.specs.Tree.{Item, access, fence, loop, either, Block, one, also, Text, nothing, part, itemWords, blockWords}
+use Rattle.grammar.specs.Tree.{wordsOf, ItemWithin, BlockWithin, DEPTH}
 use Rattle.grammar.specs.Stands.{saying}
-use Rattle.grammar.specs.Inner.Reader.{
-  SoFar,
-  none,
-  and,
-  Outside,
-  ofPart,
-  State,
-  between,
-  opening,
-  inside,
-  closed,
-  Move,
-  to,
-  tree,
-  from,
-  fromWord,
-  Levels,
-  ItemSpan,
-  BlockSpan,
-}
+use Rattle.grammar.specs.Inner.Reader.{SoFar, none, and, Outside, ofPart, State, between, opening, inside, closed, Move, to, tree}
+use Rattle.grammar.specs.Inner.Reader.{from, fromWord, Levels, ItemSpan, BlockSpan}
 use Rattle.grammar.proofs.Steps.{then, steps, after, braced, block-steps}
 use Rattle.grammar.proofs.Leads.{to-inj, not-stuck, stateWords, aroundWords, beforeWords, and-words, closed-words}
 use Rattle.grammar.proofs.Standing.{between-inj}

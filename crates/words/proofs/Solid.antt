@@ -12,29 +12,8 @@ use borrow.Author.Tests.{ne-eqb, leb-true, not-true}
 use Rattle.listing.specs.Ascii.{bytes}
 use Rattle.listing.specs.Kinds.{READ, WRITE, RMW}
 use Rattle.listing.proofs.Bools.{and-both}
-use Rattle.words.specs.Words.{
-  Token,
-  Routine,
-  Loop,
-  Either,
-  Open,
-  Close,
-  Fence,
-  Access,
-  Number,
-  Other,
-  DIGITS,
-  wordAt,
-  words,
-  begins,
-  isBlank,
-  isDigit,
-  allDigits,
-  valueFrom,
-  number,
-  same,
-  meaning,
-}
+use Rattle.words.specs.Words.{Token, Routine, Loop, Either, Open, Close, Fence, Access, Number, Other, DIGITS, wordAt, words, begins}
+use Rattle.words.specs.Words.{isBlank, isDigit, allDigits, valueFrom, number, same, meaning}
 use Rattle.words.specs.Runs.{Each}
 use Rattle.words.proofs.Compared.{same-is}
 use Rattle.words.proofs.Digits.{from-zero-on}

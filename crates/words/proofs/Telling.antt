@@ -11,19 +11,8 @@ use Rattle.listing.specs.Ascii.{bytes}
 use Rattle.listing.specs.Kinds.{PLAIN, READ, WRITE, RMW}
 use Rattle.listing.proofs.Bools.{and-both}
 use Rattle.words.specs.Words.{Token, Access, Number, Other, same, number, valueFrom, meaning}
-use Rattle.words.specs.Inner.Looking.{
-  nothingCode,
-  routineCode,
-  loopCode,
-  eitherCode,
-  openCode,
-  closeCode,
-  fenceCode,
-  accessCode,
-  numberCode,
-  otherCode,
-  tokenOf,
-}
+use Rattle.words.specs.Inner.Looking.{nothingCode, routineCode, loopCode, eitherCode, openCode, closeCode, fenceCode, accessCode}
+use Rattle.words.specs.Inner.Looking.{numberCode, otherCode, tokenOf}
 use Rattle.words.specs.Inner.Telling.{NOWHERE, codeOf, accessOf, locationOf, SaysWord}
 use Rattle.words.proofs.Digits.{small-number}
 

@@ -49,7 +49,7 @@ abbrev pub allDigits : List ℕ → Bool
 allDigits [] = true
 allDigits (b ∷ w) = isDigit b && allDigits w
 
--- the number that digits say, after those that say n
+-- the number that digits say, after those that say n; "Leading zeros are allowed, and 0 is the unknown location"
 abbrev pub valueFrom : ℕ → List ℕ → ℕ
 valueFrom n [] = n
 valueFrom n (b ∷ w) = valueFrom (10 * n + (b - 0x30)) w
@@ -87,7 +87,8 @@ same [] (b ∷ t) = false
 same (a ∷ s) [] = false
 same (a ∷ s) (b ∷ t) = eqb a b && same s t
 
--- what a word says: "`routine {", "`r`, `w` or `u` (RMW) then a location number", "`f`, `loop {", "`either {", or nothing of these
+-- what a word says, of those in "`routine { block }`" and "`r`, `w` or `u` (RMW) then a location number [..], `f`, `loop { block }`, or
+-- `either { block } { block }`"; any other says nothing
 unfoldable pub meaning : List ℕ → Token
 meaning w =
     cond (same w (bytes "routine")) Routine

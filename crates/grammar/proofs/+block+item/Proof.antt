@@ -9,27 +9,8 @@ use borrow.Fn.Kinds.{In}
 use borrow.Fn.PlainCycle.{Measures, is, falls, and}
 use Rattle.words.specs.Inner.Looking.{eitherCode}
 use Rattle.grammar.specs.Inner.Reader.{BlockRead, BlockGoes}
-use Rattle.grammar.proofs.Items.{
-  item-fence,
-  item-other,
-  Nests,
-  nests-on,
-  too-deep,
-  first-bad,
-  loop-read,
-  second-bad,
-  either-read,
-}
-use Rattle.grammar.proofs.Blocks.{
-  block-bad,
-  block-opens,
-  ahead-item,
-  item-bad,
-  block-goes,
-  block-on,
-  block-empty,
-  block-closes,
-}
+use Rattle.grammar.proofs.Items.{item-fence, item-other, Nests, nests-on, too-deep, first-bad, loop-read, second-bad, either-read}
+use Rattle.grammar.proofs.Blocks.{block-bad, block-opens, ahead-item, item-bad, block-goes, block-on, block-empty, block-closes}
 use Rattle.grammar.proofs.block.Reads as block
 use Rattle.grammar.proofs.block.Kinds as block-kinds
 use Rattle.grammar.proofs.+block+item.Lts-block as block-lts

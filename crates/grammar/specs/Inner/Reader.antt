@@ -8,26 +8,8 @@ use lib.Dec.{ltb}
 use Rattle.words.specs.Words.{Token, Routine, Loop, Either, Open, Close, Fence, Access, Number, Other}
 use Rattle.words.specs.Inner.Looking.{Mark, closeCode, unread, ahead, Place}
 use Rattle.words.specs.declared.Found.{Found}
-use Rattle.grammar.specs.Tree.{
-  Item,
-  access,
-  fence,
-  loop,
-  either,
-  Block,
-  one,
-  also,
-  Text,
-  nothing,
-  part,
-  DEPTH,
-  itemSize,
-  blockSize,
-  ItemWithin,
-  BlockWithin,
-  partsOf,
-  sizeOf,
-}
+use Rattle.grammar.specs.Tree.{Item, access, fence, loop, either, Block, one, also, Text, nothing, part, DEPTH, itemSize, blockSize}
+use Rattle.grammar.specs.Tree.{ItemWithin, BlockWithin, partsOf, sizeOf}
 use Rattle.grammar.specs.declared.Step.{Step}
 use Rattle.grammar.specs.declared.Step.the-variants.{At, Bad}
 

@@ -7,23 +7,8 @@ use lib.ListN.{length, drop, getD}
 use lib.Dec.{eqb}
 use Rattle.listing.specs.Kinds.{RMW}
 use Rattle.words.specs.declared.Found.{Found}
-use Rattle.words.specs.Words.{
-  Token,
-  Routine,
-  Loop,
-  Either,
-  Open,
-  Close,
-  Fence,
-  Access,
-  Number,
-  Other,
-  Word,
-  FARTHEST,
-  isBlank,
-  wordsFrom,
-  meaning,
-}
+use Rattle.words.specs.Words.{Token, Routine, Loop, Either, Open, Close, Fence, Access, Number, Other, Word, FARTHEST, isBlank}
+use Rattle.words.specs.Words.{wordsFrom, meaning}
 
 -- a word's place and what it says: all that the grammar asks of it
 pub record Mark : Type 0 where

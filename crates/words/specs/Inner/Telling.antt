@@ -8,19 +8,8 @@ use Rattle.listing.specs.Kinds.{PLAIN, READ, WRITE, RMW}
 use Rattle.listing.specs.Ascii.{bytes}
 use Rattle.words.specs.declared.tell.Saying.{Saying}
 use Rattle.words.specs.Words.{FARTHEST, allDigits, valueFrom, number, same, meaning}
-use Rattle.words.specs.Inner.Looking.{
-  nothingCode,
-  routineCode,
-  loopCode,
-  eitherCode,
-  openCode,
-  closeCode,
-  fenceCode,
-  accessCode,
-  numberCode,
-  otherCode,
-  tokenOf,
-}
+use Rattle.words.specs.Inner.Looking.{nothingCode, routineCode, loopCode, eitherCode, openCode, closeCode, fenceCode, accessCode}
+use Rattle.words.specs.Inner.Looking.{numberCode, otherCode, tokenOf}
 
 -- the code of a word that says a thing by itself, or otherCode
 unfoldable pub codeOf : List ℕ → ℕ
