@@ -20,9 +20,9 @@
 #include <stddef.h>
 #include <stdint.h>
 
-#define NYEKUSHIRO_VERSION "1.1.0"
+#define NYEKUSHIRO_VERSION "1.2.0"
 #define NYEKUSHIRO_VERSION_MAJOR 1
-#define NYEKUSHIRO_VERSION_MINOR 1
+#define NYEKUSHIRO_VERSION_MINOR 2
 #define NYEKUSHIRO_VERSION_PATCH 0
 
 #ifdef __cplusplus
@@ -84,7 +84,10 @@ enum nyekushiro_room {
  *
  * An RMW always completes. A compare-and-swap that may fail is no barrier under question 1, and listed as an RMW it wrongly counts
  * as one. Until there is a kind for it, write a plain node with two successors, the RMW and a read of the same cell, which both
- * lead on; examples/may-fail.txt is one. */
+ * lead on; examples/may-fail.txt is one.
+ *
+ * Whoever writes a shared cell while the routines run must be in the listing, be it a loader or a device that writes it once: reads
+ * of a cell that nobody in the listing writes are taken not to matter. */
 enum nyekushiro_node {
     NYEKUSHIRO_NODE_PLAIN = 0,
     NYEKUSHIRO_NODE_READ = 1,

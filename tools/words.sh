@@ -94,13 +94,52 @@ circle() { # FIRST SECOND COUNT PAIRS..
     from=$1
     shift 3
     pairs=$*
-    walk="node ${1%-*}, then node ${1#*-}"
+    walk="node ${1%-*}, then node ${1#*-}" hops=${1#*-}
     shift
-    for pair in "$@"; do walk="$walk; which may touch the same cell as node ${pair%-*}, then node ${pair#*-}"; done
+    for pair in "$@"; do
+        walk="$walk; which may touch the same cell as node ${pair%-*}, then node ${pair#*-}"
+        hops="$hops-${pair%-*} ${pair#*-}"
+    done
     say "$walk; which may touch the same cell as node $from."
-    # shellcheck disable=SC2046  # a word a node
-    in_text 'In the text:' $(echo "$pairs" | tr - ' ')
+    writers=''
+    for hop in $hops-$from; do reads "${hop%-*}" "${hop#*-}"; done
+    # shellcheck disable=SC2046,SC2086  # a word a node
+    in_text 'In the text:' $(echo "$pairs" | tr - ' ') $writers
     say "Next: $(pasted propose "$q" "$file")"
+}
+
+# Two reads meet because somebody writes their cell: of a hop between two, says who may. Adds that node to writers.
+reads() { # NODE NODE
+    # shellcheck disable=SC2086  # a word a byte
+    read_at "$1" $listing && one=$at && read_at "$2" $listing && writer "$one" "$at" $listing || return 0
+    writers="$writers $node"
+    case $1 in
+    "$2") say "Node $1 only reads; node $node may write what it reads." ;;
+    *) say "Nodes $1 and $2 only read; node $node may write what they read." ;;
+    esac
+}
+
+# Whether a node is a read: sets at to its location.
+read_at() { # NODE OCTAL..: a listing's bytes
+    shift $((8 + 6 * $1))
+    at=$3$4
+    [ "$2" = 001 ]
+}
+
+# The first write or RMW that may meet accesses of both locations: sets node.
+writer() { # LOCATION LOCATION OCTAL..: a listing's bytes
+    one=$1 other=$2 node=0
+    shift 9
+    while [ $# -ge 6 ]; do
+        case $2 in 002 | 003) overlap "$3$4" "$one" && overlap "$3$4" "$other" && return ;; esac
+        shift 6
+        node=$((node + 1))
+    done
+    return 1
+}
+
+overlap() { # LOCATION LOCATION: one of them unknown, or equal
+    [ "$1" = 000000 ] || [ "$2" = 000000 ] || [ "$1" = "$2" ]
 }
 
 proposal() { # COUNT PLACES..

@@ -35,13 +35,9 @@ fn groups_that_share_no_cell_and_know_their_locations_may_be_parted() {
     assert!(met.iter().all(|&count| count > 1000), "both answers are met: {met:?}");
 }
 
-fn records(listing: &[u8]) -> Vec<Record> {
-    (0..nodes(listing)).map(|node| Record::of(listing, node)).collect()
-}
-
 /// The same listing with odd or even locations alone, and none that is unknown.
 fn with_cells_of_its_own(listing: &[u8], odd: bool) -> Vec<u8> {
-    let mut records = records(listing);
+    let mut records = Record::all(listing);
     for record in records.iter_mut().filter(|record| (READ..=RMW).contains(&record.kind)) {
         let block = record.location & (LAST_CELL + 1);
         record.location = block | ((record.location & (LAST_CELL / 2)).max(1) * 2 + odd as u16);
@@ -53,8 +49,8 @@ fn with_cells_of_its_own(listing: &[u8], odd: bool) -> Vec<u8> {
 fn joined(one: &[u8], other: &[u8]) -> Option<Vec<u8>> {
     let (routines, first) = (read(one).unwrap().routines as u8, nodes(one) as u8);
     let moved = |successor| if successor == NONE { NONE } else { first + successor };
-    let mut records = records(one);
-    records.extend(self::records(other).into_iter().map(|record| Record {
+    let mut records = Record::all(one);
+    records.extend(Record::all(other).into_iter().map(|record| Record {
         routine: routines + record.routine,
         first: moved(record.first),
         second: moved(record.second),

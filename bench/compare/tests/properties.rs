@@ -1,6 +1,8 @@
 //! What the rules say of the services together, tried on random listings.
 
-use inputs::{nodes, random_listing, Random, Record, FENCE, NODES, NONE};
+use std::cell::Cell;
+
+use inputs::{bytes, nodes, random_listing, Random, Record, FENCE, NODES, NONE, PLAIN, READ, RMW, ROUTINES_AT, WRITE};
 use nyekushiro::{judge, judge_patch, propose, raw, read, write, Answer, Question, Reason};
 
 const LISTINGS: usize = 4000;
@@ -117,11 +119,38 @@ fn chain_is_a_chain() {
         let pairs = chain.pairs();
         assert_eq!(pairs[0], (first, second));
         assert!((2..=nodes(listing) + 1).contains(&pairs.len()));
-        let location = |node: usize| Record::of(listing, node).location;
+        let records = Record::all(listing);
         for (at, pair) in pairs.iter().enumerate() {
             assert!(!pairs[..at].contains(pair), "all different");
-            let (end, next) = (location(pair.1), location(pairs[(at + 1) % pairs.len()].0));
-            assert!(end == 0 || next == 0 || end == next, "each joined to the next, and the last to the first");
+            let (end, next) = (records[pair.1], records[pairs[(at + 1) % pairs.len()].0]);
+            assert!(overlap(&end, &next), "each joined to the next, and the last to the first");
+            let somebody_writes = || writers(&records).any(|writer| overlap(writer, &end) && overlap(writer, &next));
+            assert!(end.kind != READ || next.kind != READ || somebody_writes(), "two reads by way of somebody who writes");
         }
     });
+}
+
+#[test]
+fn reads_of_what_nobody_writes_count_for_nothing() {
+    let changed = Cell::new(0);
+    on_random_listings(20, |question, listing, map| {
+        let records = Record::all(listing);
+        let without = |record: &Record| match record.kind {
+            READ if !writers(&records).any(|writer| overlap(writer, record)) => Record { kind: PLAIN, location: 0, ..*record },
+            _ => *record,
+        };
+        let fewer = bytes(listing[ROUTINES_AT], &records.iter().map(without).collect::<Vec<_>>());
+        assert_eq!(judge_patch(question, listing, map), judge_patch(question, &fewer, map));
+        assert_eq!(propose(question, listing), propose(question, &fewer));
+        changed.set(changed.get() + (fewer != listing && !judge(question, listing).unwrap().is_robust()) as usize);
+    });
+    assert!(changed.get() > 1000, "too few open listings have such a read to mean anything: {}", changed.get());
+}
+
+fn writers(records: &[Record]) -> impl Iterator<Item = &Record> {
+    records.iter().filter(|record| [WRITE, RMW].contains(&record.kind))
+}
+
+fn overlap(one: &Record, other: &Record) -> bool {
+    one.location == 0 || other.location == 0 || one.location == other.location
 }

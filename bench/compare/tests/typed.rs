@@ -3,9 +3,9 @@
 //!
 //! NYEKUSHIRO_INPUTS says how many texts, NYEKUSHIRO_SEED where the numbers by chance start.
 
-use std::{fmt, thread};
+use std::thread;
 
-use compare::{ask_both, setting, Service};
+use compare::{ask_both, setting, Marked, Service};
 use inputs::{damaged_words, deep_words, spread, words_of_any_size, Call, Random};
 use nyekushiro::raw;
 
@@ -31,21 +31,22 @@ const CUT_OFF: usize = 5;
 fn main() {
     let (texts, seed) = (setting("NYEKUSHIRO_INPUTS", TEXTS), setting("NYEKUSHIRO_SEED", SEED));
     let counts = ask_all(texts, seed);
-    let asked: usize = counts.0.iter().flatten().sum();
+    let asked = counts.total();
     println!("{texts} random texts, {asked} with those damaged at each word and cut off at each byte: all alike\n{counts}");
-    let wrong = counts.unlike_the_marks();
-    if !wrong.is_empty() {
-        panic!("not met as it must be, so ask for more with NYEKUSHIRO_INPUTS or mend the inputs: {}", wrong.join("; "));
-    }
+    counts.must_be_as_marked();
+}
+
+fn no_counts() -> Marked {
+    Marked::new(MADE.to_vec(), &ANSWERS)
 }
 
 /// Shares the texts out among the processors; a text depends on its number and the seed alone.
-fn ask_all(texts: u64, seed: u64) -> Counts {
+fn ask_all(texts: u64, seed: u64) -> Marked {
     let processors = thread::available_parallelism().map_or(1, usize::from);
     // so that seeds that are near each other have no texts in common
     let start = Random::seeded(seed).number();
     let of_one = |first| {
-        let mut counts = Counts::default();
+        let mut counts = no_counts();
         for number in (first..texts).step_by(processors) {
             Forms { number, seed, random: Random::seeded(start.wrapping_add(number)), counts: &mut counts }.ask();
         }
@@ -53,7 +54,7 @@ fn ask_all(texts: u64, seed: u64) -> Counts {
     };
     thread::scope(|scope| {
         let working: Vec<_> = (0..processors as u64).map(|first| scope.spawn(move || of_one(first))).collect();
-        working.into_iter().map(|worker| worker.join().unwrap()).fold(Counts::default(), Counts::and)
+        working.into_iter().map(|worker| worker.join().unwrap()).fold(no_counts(), Marked::and)
     })
 }
 
@@ -62,7 +63,7 @@ struct Forms<'a> {
     number: u64,
     seed: u64,
     random: Random,
-    counts: &'a mut Counts,
+    counts: &'a mut Marked,
 }
 
 impl Forms<'_> {
@@ -88,7 +89,7 @@ impl Forms<'_> {
         let length = text.len();
         let call = Call::of_text(&mut self.random, text, nodes);
         match ask_both(Service::Text, &call, &mut self.random) {
-            Ok(answer) => self.counts.count(made, answer, length),
+            Ok(answer) => self.counts.count(made, column(answer, length)),
             Err(difference) => {
                 let words = String::from_utf8_lossy(&call.text);
                 panic!("text {} of seed {}, {}, {words:?}: {difference}", self.number, self.seed, MADE[made].0)
@@ -97,52 +98,15 @@ impl Forms<'_> {
     }
 }
 
-/// How often each answer was met, by how the text came to be.
-#[derive(Default)]
-struct Counts([[usize; ANSWERS.len()]; MADE.len()]);
-
-impl Counts {
-    fn count(&mut self, made: usize, answer: raw::Answer, length: usize) {
-        let column = match (answer.kind, answer.first, answer.second) {
-            (raw::Answer::DONE, 0, 0) => 0,
-            (raw::Answer::REFUSED, 5, 0) => 1,
-            (raw::Answer::REFUSED, 6, 0) => 2,
-            (raw::Answer::REFUSED, 16, 0) => 3,
-            (raw::Answer::REFUSED, 17, place) if place < length as u64 => 4,
-            (raw::Answer::REFUSED, 17, place) if place == length as u64 => 5,
-            _ => panic!("a text {length} bytes long is answered with {answer:?}, which no text is"),
-        };
-        self.0[made][column] += 1;
-    }
-
-    fn and(mut self, other: Counts) -> Counts {
-        for (sum, count) in self.0.iter_mut().flatten().zip(other.0.iter().flatten()) {
-            *sum += count;
-        }
-        self
-    }
-
-    fn unlike_the_marks(&self) -> Vec<String> {
-        let mut wrong = Vec::new();
-        for ((made, marks), counts) in MADE.iter().zip(self.0) {
-            for ((answer, mark), count) in ANSWERS.iter().zip(marks.chars()).zip(counts) {
-                if (mark == '+') != (count > 0) {
-                    wrong.push(format!("{made}: {answer} {count} times"));
-                }
-            }
-        }
-        wrong
-    }
-}
-
-impl fmt::Display for Counts {
-    fn fmt(&self, out: &mut fmt::Formatter<'_>) -> fmt::Result {
-        write!(out, "{:<20}", "met")?;
-        ANSWERS.iter().try_for_each(|answer| write!(out, "{answer:>15}"))?;
-        for ((made, _), counts) in MADE.iter().zip(self.0) {
-            write!(out, "\n{made:<20}")?;
-            counts.iter().try_for_each(|count| write!(out, "{count:>15}"))?;
-        }
-        Ok(())
+/// Where ANSWERS has the answer to a text of this length.
+fn column(answer: raw::Answer, length: usize) -> usize {
+    match (answer.kind, answer.first, answer.second) {
+        (raw::Answer::DONE, 0, 0) => 0,
+        (raw::Answer::REFUSED, 5, 0) => 1,
+        (raw::Answer::REFUSED, 6, 0) => 2,
+        (raw::Answer::REFUSED, 16, 0) => 3,
+        (raw::Answer::REFUSED, 17, place) if place < length as u64 => 4,
+        (raw::Answer::REFUSED, 17, place) if place == length as u64 => 5,
+        _ => panic!("a text {length} bytes long is answered with {answer:?}, which no text is"),
     }
 }

@@ -39,6 +39,12 @@ impl Call {
         }
     }
 
+    /// Of a good listing and a good map, with just the room that they take.
+    pub fn of_listing(question: u64, listing: Vec<u8>, map: Vec<u8>) -> Call {
+        let listing_room = length(map.len() + map.iter().filter(|&&byte| byte == 1).count());
+        Call { question, chain_room: CHAIN_BUFFER, map_room: map.len(), listing_room, listing, map, text: vec![], text_room: 0 }
+    }
+
     /// Of nothing but a text, for a listing with at most so many nodes.
     pub fn of_text(random: &mut Random, text: Vec<u8>, nodes: usize) -> Call {
         let text_room = room(random, length(nodes));

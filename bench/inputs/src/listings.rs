@@ -26,6 +26,24 @@ struct Palette {
     block_once_in: usize,
 }
 
+/// The kinds of a listing's nodes, each as often as it stands there.
+type Kinds = &'static [u8];
+
+const MIXED: &[Kinds] = &[
+    &[READ, WRITE],
+    &[READ, WRITE, READ, WRITE, RMW, FENCE, PLAIN],
+    &[READ, WRITE, RMW, RMW],
+    &[READ, WRITE, FENCE, FENCE, PLAIN],
+    &[WRITE, READ, READ, READ, READ, FENCE, RMW],
+];
+
+/// Cells are read that few write, or nobody does.
+const FEW_WRITERS: &[Kinds] =
+    &[&[READ, READ, READ, READ, READ, WRITE], &[READ, READ, READ, READ, READ, RMW], &[READ, READ, READ, PLAIN, FENCE]];
+
+/// How many cells a listing has.
+const CELLS: &[usize] = &[1, 2, 3, 5, 12, 200];
+
 /// A good listing with this many nodes.
 pub fn random_listing(random: &mut Random, nodes: usize) -> Vec<u8> {
     if random.once_in(6) {
@@ -36,17 +54,15 @@ pub fn random_listing(random: &mut Random, nodes: usize) -> Vec<u8> {
     }
     let most = random.one_of(&[4, 4, 4, ROUTINES]);
     let routines = random.from_to(1, most);
-    let links = random.one_of(&[Links::Line, Links::Branches, Links::Loops, Links::Anywhere, Links::Pieces]);
-    listing(random, nodes, routines, links)
+    of_any_links(random, nodes, routines, CELLS)
 }
 
 /// A good listing of at most five nodes and four accesses, for the search through everything.
 pub fn tiny_listing(random: &mut Random) -> Vec<u8> {
     loop {
         let (nodes, routines) = (random.from_to(1, 5), random.from_to(1, 2));
-        let links = random.one_of(&[Links::Line, Links::Branches, Links::Loops, Links::Anywhere, Links::Pieces]);
-        let listing = listing(random, nodes, routines, links);
-        if (0..nodes).filter(|&node| (READ..=RMW).contains(&Record::of(&listing, node).kind)).count() <= 4 {
+        let listing = of_any_links(random, nodes, routines, &[1, 2, 3, 5]);
+        if Record::all(&listing).iter().filter(|record| (READ..=RMW).contains(&record.kind)).count() <= 4 {
             return listing;
         }
     }
@@ -54,23 +70,23 @@ pub fn tiny_listing(random: &mut Random) -> Vec<u8> {
 
 /// A good listing of four routines with loops and every kind.
 pub fn woven(random: &mut Random, nodes: usize) -> Vec<u8> {
-    listing(random, nodes, 4, Links::Loops)
+    listing(random, nodes, 4, Links::Loops, CELLS, MIXED)
 }
 
-fn listing(random: &mut Random, nodes: usize, routines: usize, links: Links) -> Vec<u8> {
+fn of_any_links(random: &mut Random, nodes: usize, routines: usize, cells: &[usize]) -> Vec<u8> {
+    let links = random.one_of(&[Links::Line, Links::Branches, Links::Loops, Links::Anywhere, Links::Pieces]);
+    let kinds = if random.once_in(4) { FEW_WRITERS } else { MIXED };
+    listing(random, nodes, routines, links, cells, kinds)
+}
+
+fn listing(random: &mut Random, nodes: usize, routines: usize, links: Links, cells: &[usize], kinds: &[Kinds]) -> Vec<u8> {
     let owners = owners(random, nodes, routines);
     let palette = Palette {
-        cells: random.one_of(&[1, 2, 3, 5, 12, 200]),
+        cells: random.one_of(cells),
         unknown_once_in: random.one_of(&[4, 20, 1000]),
         block_once_in: random.one_of(&[2, 8, 1000]),
     };
-    let kinds: &[u8] = random.one_of(&[
-        &[READ, WRITE],
-        &[READ, WRITE, READ, WRITE, RMW, FENCE, PLAIN],
-        &[READ, WRITE, RMW, RMW],
-        &[READ, WRITE, FENCE, FENCE, PLAIN],
-        &[WRITE, READ, READ, READ, READ, FENCE, RMW],
-    ]);
+    let kinds = random.one_of(kinds);
     let records: Vec<Record> = (0..nodes)
         .map(|node| {
             let own: Vec<u8> = (0..nodes).filter(|&other| owners[other] == owners[node]).map(|other| other as u8).collect();

@@ -1,6 +1,6 @@
 //! Listings by hand.
 
-use crate::numbers::{length, NONE};
+use crate::numbers::{length, nodes, NONE};
 
 /// A record of a listing, good or bad.
 #[derive(Clone, Copy, Debug, PartialEq, Eq)]
@@ -18,6 +18,11 @@ impl Record {
         let record = &listing[length(node)..];
         let location = u16::from_le_bytes([record[2], record[3]]);
         Record { routine: record[0], kind: record[1], location, first: record[4], second: record[5] }
+    }
+
+    /// The records of all nodes.
+    pub fn all(listing: &[u8]) -> Vec<Record> {
+        (0..nodes(listing)).map(|node| Record::of(listing, node)).collect()
     }
 }
 

@@ -18,15 +18,19 @@ pub struct Size {
 ///
 /// ```
 /// use nyekushiro::{judge, Question};
-/// // 0 write x, 1 read y, and round again
-/// let listing = b"ORD\x01\x00\x01\x02\x00\x02\x01\x00\x01\xff\x00\x01\x02\x00\x00\xff";
+/// // 0 write x, 1 read y, and round again; 2 write y
+/// let listing = b"ORD\x01\x00\x02\x03\x00\x02\x01\x00\x01\xff\x00\x01\x02\x00\x00\xff\x01\x02\x02\x00\xff\xff";
 /// assert_eq!(judge(Question::ScOnX86, listing)?.to_string(), "OPEN 0 1 2 0-1 1-0");
+/// // the same without 2: nobody writes y
+/// let listing = b"ORD\x01\x00\x01\x02\x00\x02\x01\x00\x01\xff\x00\x01\x02\x00\x00\xff";
+/// assert_eq!(judge(Question::ScOnX86, listing)?.to_string(), "ROBUST");
 /// # Ok::<(), nyekushiro::Refusal>(())
 /// ```
 #[derive(Clone, Debug, PartialEq, Eq)]
 pub enum Answer {
     /// No pair fails. Left out is a circle that one pair closes with copies of itself alone: where a location is unknown or a block,
-    /// list that routine twice (docs/LISTING.md).
+    /// list that routine twice. Whoever writes a shared cell while the routines run must be in the listing: reads of a cell that nobody
+    /// in the listing writes are taken not to matter (docs/LISTING.md).
     Robust,
     /// A pair fails: the rules do not assure that others see its nodes in order.
     Open {

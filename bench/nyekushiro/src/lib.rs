@@ -82,9 +82,10 @@ pub fn judge_patch(question: Question, listing: &[u8], map: &[u8]) -> Result<Ans
 ///
 /// ```
 /// use nyekushiro::{propose, Question};
-/// // 0 write x, 1 read y, and round again
-/// let map = propose(Question::ScOnX86, b"ORD\x01\x00\x01\x02\x00\x02\x01\x00\x01\xff\x00\x01\x02\x00\x00\xff")?;
-/// assert_eq!(map.as_bytes(), [1, 0]);
+/// // 0 write x, 1 read y, and round again; 2 write y
+/// let listing = b"ORD\x01\x00\x02\x03\x00\x02\x01\x00\x01\xff\x00\x01\x02\x00\x00\xff\x01\x02\x02\x00\xff\xff";
+/// let map = propose(Question::ScOnX86, listing)?;
+/// assert_eq!(map.as_bytes(), [1, 0, 0]);
 /// # Ok::<(), nyekushiro::Refusal>(())
 /// ```
 pub fn propose(question: Question, listing: &[u8]) -> Result<Map, Refusal> {

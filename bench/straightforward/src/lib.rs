@@ -26,8 +26,9 @@ mod verdict;
 mod walks;
 mod words;
 
+pub use chains::{may_meet, Meeting, Pair};
 pub use listing::{Kind, Listing, Node, HEADING, MOST_NODES, MOST_ROUTINES, NONE, RECORD};
 pub use need::Question;
 pub use refusals::Refusal;
-pub use services::{judge, judge_patch, program, propose, read, text, write, Answer, CHAIN_BUFFER};
+pub use services::{failing_by, judge, judge_patch, program, propose, read, text, write, Answer, CHAIN_BUFFER};
 pub use tree::DEEPEST;

@@ -30,6 +30,11 @@ impl Kind {
     pub fn is_access(self) -> bool {
         matches!(self, Kind::Read | Kind::Write | Kind::Rmw)
     }
+
+    /// "A write or an RMW"
+    pub fn writes(self) -> bool {
+        matches!(self, Kind::Write | Kind::Rmw)
+    }
 }
 
 #[derive(Clone, Debug, PartialEq, Eq)]

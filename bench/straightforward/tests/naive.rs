@@ -1,4 +1,4 @@
-//! The rules once more, by trying everything: all walks, all lists of different pairs, all short closed chains of steps.
+//! The rules once more, by trying everything: all walks, all locations, all lists of different pairs, all short closed chains of steps.
 //! Thousands of tiny listings are judged both ways.
 
 use inputs::{tiny_listing, Random};
@@ -13,6 +13,8 @@ struct Tiny<'a> {
     records: Vec<&'a [u8]>,
     walks: Vec<Walk>,
     question: u64,
+    /// who may meet whom
+    meetings: Vec<Vec<bool>>,
 }
 
 impl<'a> Tiny<'a> {
@@ -31,7 +33,9 @@ impl<'a> Tiny<'a> {
             }
             last = longer;
         }
-        Tiny { records, walks, question }
+        let mut tiny = Tiny { records, walks, question, meetings: Vec::new() };
+        tiny.meetings = tiny.who_meets(None);
+        tiny
     }
 
     fn kind(&self, node: usize) -> u8 {
@@ -57,9 +61,31 @@ impl<'a> Tiny<'a> {
         all.filter(|&pair| self.accesses(pair) && self.insides(pair).next().is_some()).collect()
     }
 
+    /// Who may meet whom, by trying every location: both may be there, and where both are reads, somebody who writes may be there
+    /// too. `two_reads`, if given, says that reads always meet there, or never.
+    fn who_meets(&self, two_reads: Option<bool>) -> Vec<Vec<bool>> {
+        let nodes = || 0..self.records.len();
+        let may_be = |node: usize, there: u16| [0, there].contains(&self.location(node));
+        let is_written = |there: u16| nodes().any(|node| [2, 3].contains(&self.kind(node)) && may_be(node, there));
+        let meet = |one: usize, other: usize| {
+            let reads = self.kind(one) == 1 && self.kind(other) == 1;
+            let may_both_be = |there: &u16| may_be(one, *there) && may_be(other, *there);
+            let mut shared = nodes().map(|node| self.location(node)).filter(may_both_be);
+            shared.any(|there| !reads || two_reads.unwrap_or_else(|| is_written(there)))
+        };
+        nodes().map(|one| nodes().map(|other| meet(one, other)).collect()).collect()
+    }
+
     fn may_meet(&self, one: usize, other: usize) -> bool {
-        let (one, other) = (self.location(one), self.location(other));
-        one == 0 || other == 0 || one == other
+        self.meetings[one][other]
+    }
+
+    /// What `judge` says by the rules, if reads always met at a location, and if they never did.
+    fn by_each_rule<T>(mut self, judge: impl Fn(&Self) -> T) -> [T; 3] {
+        [None, Some(true), Some(false)].map(|two_reads| {
+            self.meetings = self.who_meets(two_reads);
+            judge(&self)
+        })
     }
 
     fn surely_meet(&self, (one, other): Pair) -> bool {
@@ -149,6 +175,29 @@ impl<'a> Tiny<'a> {
     }
 }
 
+/// How often a verdict turned on which reads meet.
+#[derive(Default, Debug)]
+struct Turned {
+    /// it would be OPEN if reads always met at a location
+    to_robust: usize,
+    /// it would be ROBUST if they never did
+    to_open: usize,
+}
+
+impl Turned {
+    fn count(&mut self, [robust, always, never]: [bool; 3]) {
+        self.to_robust += (robust && !always) as usize;
+        self.to_open += (!robust && never) as usize;
+    }
+
+    fn must_be_over(&self, least: usize) {
+        assert!(
+            self.to_robust > least && self.to_open > least,
+            "too few verdicts turn on which reads meet to mean anything: {self:?}"
+        );
+    }
+}
+
 /// Links that visit every node twice: enough for a walk past an RMW.
 fn links(listing: &[u8]) -> usize {
     2 * listing[6] as usize
@@ -168,12 +217,14 @@ fn judged(question: u64, listing: &[u8], map: &[u8]) -> Option<Vec<Pair>> {
 #[test]
 fn verdict_chain_and_proposal_by_trying_everything() {
     let mut random = Random::seeded(1);
-    let (mut open, mut long) = (0, 0);
+    let (mut open, mut long, mut turned) = (0, 0, Turned::default());
     for _ in 0..20000 {
         let listing = tiny_listing(&mut random);
         let nodes = listing[6] as usize;
         for question in 1..=4 {
-            let failing = Tiny::new(question, &listing, links(&listing)).failing();
+            let tried = Tiny::new(question, &listing, links(&listing)).by_each_rule(Tiny::failing);
+            turned.count(tried.each_ref().map(Vec::is_empty));
+            let [failing, ..] = tried;
             assert_eq!(judged(question, &listing, &vec![0; nodes]), failing.first().cloned(), "{question} {listing:?}");
             let expected: Vec<u8> = (0..nodes).map(|node| failing.iter().any(|chain| chain[0].0 == node) as u8).collect();
             let mut map = vec![7; nodes];
@@ -183,12 +234,14 @@ fn verdict_chain_and_proposal_by_trying_everything() {
             long += failing.iter().any(|chain| chain.len() > 2) as usize;
         }
     }
-    assert!(open > 8000 && long > 400, "too few open listings ({open}) or long chains ({long}) to mean anything");
+    assert!(open > 5000 && long > 300, "too few open listings ({open}) or long chains ({long}) to mean anything");
+    turned.must_be_over(500);
 }
 
 #[test]
 fn demand_3_by_trying_short_closed_chains() {
     let mut random = Random::seeded(3);
+    let mut turned = Turned::default();
     for _ in 0..2000 {
         let listing = tiny_listing(&mut random);
         let nodes = listing[6] as usize;
@@ -196,17 +249,21 @@ fn demand_3_by_trying_short_closed_chains() {
             let mut chain = [0; CHAIN_BUFFER];
             let robust = judge(question, &listing, &mut chain).unwrap() == Answer::Robust;
             // four accesses: no chain to show has more than five pairs
-            assert_eq!(Tiny::new(question, &listing, links(&listing)).ordered(5), robust, "{question} {listing:?}");
+            let ordered = Tiny::new(question, &listing, links(&listing)).by_each_rule(|tiny| tiny.ordered(5));
+            assert_eq!(ordered[0], robust, "{question} {listing:?}");
+            turned.count(ordered);
             let mut map = vec![0; nodes];
             propose(question, &listing, &mut map).unwrap();
             assert_eq!(judged(question, &listing, &map), None, "the proposal is not accepted: {question} {listing:?}");
         }
     }
+    turned.must_be_over(25);
 }
 
 #[test]
 fn patches_by_trying_everything_on_the_written_listing() {
     let mut random = Random::seeded(5);
+    let mut turned = Turned::default();
     for _ in 0..2000 {
         let listing = tiny_listing(&mut random);
         if listing[6] > 4 {
@@ -218,9 +275,12 @@ fn patches_by_trying_everything_on_the_written_listing() {
         for question in 1..=4 {
             let tiny = Tiny::new(question, &written[..length], links(&written));
             let pairs = tiny.pairs();
-            let first = tiny.failing().into_iter().next();
+            let tried = tiny.by_each_rule(|tiny| tiny.failing().into_iter().next());
+            turned.count(tried.each_ref().map(Option::is_none));
+            let [first, ..] = tried;
             assert_eq!(judged(question, &listing, &map), first, "{question} {map:?} {listing:?}");
             assert!(pairs.iter().all(|pair| pair.0.max(pair.1) < map.len()), "a fence is no access");
         }
     }
+    turned.must_be_over(25);
 }

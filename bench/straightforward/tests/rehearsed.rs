@@ -93,6 +93,9 @@ fn shortcuts_that_look_right() {
         ("one neighbour before and one after do not close a chain", 2, "w1 w2; w2 w3; w4 w1", "ROBUST"),
         ("three pairs do", 2, "w1 w2; w2 w3; w3 w1", "OPEN 0 1 3 0-1 2-3 4-5"),
         ("an RMW inside a walk with a fence counts too", 3, "w1>1,4 f u9 f r2; w2 w1", "OPEN 0 4 2 0-4 5-6"),
+        ("an RMW writes what two reads read", 2, "r1 r2; r2 r1; u1; u2", "OPEN 0 1 2 0-1 2-3"),
+        ("so does a node of their own routine", 2, "r1 r2>255 w1>255 w2; r2 r1", "OPEN 0 1 2 0-1 4-5"),
+        ("a write to another cell does not", 2, "r1 r2; r2 r1; w1; w3", "ROBUST"),
         ("the smallest of the shortest", 2, "w1 w2; w2 w0; w2 w1", "OPEN 0 1 2 0-1 2-3"),
     ];
     for (why, question, listing, expected) in cases {

@@ -1,5 +1,6 @@
 // Judging: what the judge answers to each rehearsed listing, one line a question.
 use crate::full;
+use crate::meeting::meeting;
 use listing::Listing;
 use verdict::CHAIN_BYTES;
 
@@ -29,7 +30,7 @@ fn ask_short(name: &[u8], question: u64, bytes: &[u8]) {
 }
 
 // A listing under each of the four questions.
-fn case(name: &[u8], bytes: &[u8]) {
+pub fn case(name: &[u8], bytes: &[u8]) {
     ask(name, 1, bytes);
     ask(name, 2, bytes);
     ask(name, 3, bytes);
@@ -120,14 +121,8 @@ fn blocks() {
     );
 }
 
-// One routine: a loop, two writes, and no node at all.
+// One routine: two writes, and no node at all.
 fn one_routine() {
-    case(
-        b"K",
-        b"ORD\x01\x00\x01\x02\
-          \x00\x02\x01\x00\x01\xFF\
-          \x00\x01\x02\x00\x00\xFF",
-    );
     case(
         b"L",
         b"ORD\x01\x00\x01\x02\
@@ -144,7 +139,7 @@ fn neighbours() {
         b"ORD\x01\x00\x03\x06\
           \x00\x02\x01\x00\x01\xFF\
           \x00\x01\x02\x00\xFF\xFF\
-          \x01\x01\x02\x00\x03\xFF\
+          \x01\x02\x02\x00\x03\xFF\
           \x01\x01\x03\x00\xFF\xFF\
           \x02\x01\x04\x00\x05\xFF\
           \x02\x02\x01\x00\xFF\xFF",
@@ -178,6 +173,7 @@ pub fn judging(a: &[u8]) {
     branches();
     blocks();
     one_routine();
+    meeting();
     neighbours();
     sizes();
     refusals(a);

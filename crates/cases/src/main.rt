@@ -1,6 +1,7 @@
 // The rehearsed listings and the sentences under their table: what each service answers, one line a case.
 mod full;
 mod judging;
+mod meeting;
 mod patching;
 
 fn main() {

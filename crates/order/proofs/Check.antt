@@ -8,11 +8,11 @@ use native.Mathlib.Omega.{arith}
 use lib.Dec.{T, eqb, ltb}
 use lib.ListN.{length}
 use Rattle.listing.specs.Node.{Listing}
-use Rattle.order.specs.Rows.{All, In, Different, Row}
+use Rattle.order.specs.Rows.{All, In, some, Different, Row}
 use Rattle.order.specs.Chains.{Ends, IsPair, Joined, Enough, Chain}
 use Rattle.order.specs.Verdict.{Fails, Robust, Before, Smaller, Better, Shown, Verdict, robust, opened, Judged}
 use Rattle.listing.proofs.Bools.{T?}
-use Rattle.order.proofs.Lists.{all-in, in-all, in?, some, every, upto, in-upto}
+use Rattle.order.proofs.Lists.{all-in, in-all, in?, every, upto, in-upto}
 use Rattle.order.proofs.Laws.{ends-eq, enough-some}
 use Rattle.order.proofs.Tests.{eqb-checked, ltb-checked, both-checked, one-checked, not-checked, every-checked}
 use Rattle.order.proofs.Rounds.{Round}

@@ -8,14 +8,14 @@ use native.Mathlib.Decide.{ℕ-discrete}
 use lib.Dec.{T, eqb, ltb, eqb→eq, eqb-refl, T-not, not-T}
 use lib.ListN.{length}
 use Rattle.listing.specs.Node.{Listing, node}
-use Rattle.order.specs.Rows.{All, In}
+use Rattle.order.specs.Rows.{All, In, some}
 use Rattle.order.specs.Walks.{kindAt, locAt, isAccess, countsRmw, Access, Next, Succ, Walk}
 use Rattle.order.specs.Chains.{meets, surely, Ends, IsPair, Chain}
 use Rattle.order.specs.Need.{question, Entry, need, leave, leaveUnlessRmw, entry, RmwInside, Says, Needs, classAt, bars, Unbarred}
 use Rattle.order.specs.Verdict.{Fails}
 use Rattle.listing.proofs.Bools.{both, both→, T?}
 use Rattle.order.proofs.Lists.{all-in, in-all, in-left, in-right, Cut, cut, row-join, row-before, row-after, row-map}
-use Rattle.order.proofs.Lists.{keep, some, in-keep, keep-in, some-in, in-some, upto, in-upto}
+use Rattle.order.proofs.Lists.{keep, in-keep, keep-in, some-in, in-some, upto, in-upto}
 use Rattle.order.proofs.Tests.{eqb-checked, ltb-checked, both-checked, one-checked}
 use Rattle.order.proofs.Laws.{ends-eq, access-in, walk-in}
 use Rattle.order.proofs.Rounds.{shorten}

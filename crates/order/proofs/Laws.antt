@@ -1,4 +1,4 @@
--- Laws of the definitions: what the rest of the theory uses of walks, accesses, meeting and barriers.
+-- Laws of the definitions: what the rest of the theory uses of walks, accesses and barriers. Those of meeting stand in Meeting.antt.
 use mathlib.Core.Path.{_≡_, refl, sym, subst}
 use mathlib.Core.Logic.{_⊎_, inl, inr}
 use mathlib.Core.HLevel.{×-discrete}
@@ -45,21 +45,6 @@ walk-in L a [] b w x (inl e) = omega (arith, e, w .0)
 walk-in L a [] b w x (inr i) = absurd i
 walk-in L a (c ∷ xs) b w x (inl e) = omega (arith, e, w .0 .0)
 walk-in L a (c ∷ xs) b w x (inr i) = walk-in L c xs b (w .1) x i
-
--- meeting does not depend on who is named first
-overlap-sym : (x y : ℕ) → T (overlap x y) → T (overlap y x)
-overlap-sym x y t = go (one→ (isUnknown x) (isUnknown y || eqb x y) t)
-  where
-    later : T (isUnknown y) ⊎ T (eqb x y) → T (overlap y x)
-    later (inl u) = one (isUnknown y) _ (inl u)
-    later (inr e) = one (isUnknown y) _ (inr (one (isUnknown x) _ (inr (eq→eqb y x (sym (eqb→eq x y e))))))
-
-    go : T (isUnknown x) ⊎ T (isUnknown y || eqb x y) → T (overlap y x)
-    go (inl u) = one (isUnknown y) _ (inr (one (isUnknown x) _ (inl u)))
-    go (inr h) = later (one→ (isUnknown y) (eqb x y) h)
-
-pub meets-sym : (L : Listing) (a b : ℕ) → MayMeet L a b → MayMeet L b a
-meets-sym L a b = overlap-sym (locAt L a) (locAt L b)
 
 -- a full fence is a barrier under every question, whatever the ends
 pub bars-fence : (q : Question) (e : ℕ) → T (bars q e FENCE)

@@ -5,6 +5,7 @@ pub mod Tables
 pub mod Shorten
 pub mod Keys
 pub mod Laws
+pub mod Meeting
 pub mod Entries
 pub mod Rounds
 pub mod Least

@@ -2,13 +2,13 @@
 use mathlib.Core.Path.{_≡_, refl, sym, ap, subst}
 use mathlib.Core.Logic.{_⊎_, inl, inr}
 use mathlib.Core.List.{List, [], _∷_, _++_}
-use mathlib.Core.Bool.{Bool, true, false, _&&_, _||_}
+use mathlib.Core.Bool.{Bool, true, false, _&&_}
 use Prim.Native.Nat.{ℕ, zero, suc, _+_, _≤_, _<_}
 use native.Mathlib.Omega.{arith}
 use native.Mathlib.Decide.{ℕ-discrete}
 use lib.Dec.{T}
 use lib.ListN.{length, length-append}
-use Rattle.order.specs.Rows.{All, In, Different, Row}
+use Rattle.order.specs.Rows.{All, In, some, Different, Row}
 use Rattle.listing.proofs.Bools.{both, one, one→}
 
 module _ {A : Type 0} where
@@ -70,7 +70,7 @@ module _ {A : Type 0} where
   row-map r s f a [] z h = f a z h
   row-map r s f a (x ∷ xs) z h = (f a x (h .0), row-map r s f x xs z (h .1))
 
-  -- the entries that pass a test; whether one does; whether all do
+  -- the entries that pass a test; whether all do
   abbrev pub keepIf : Bool → A → List A → List A
   keepIf true x xs = x ∷ xs
   keepIf false x xs = xs
@@ -78,10 +78,6 @@ module _ {A : Type 0} where
   abbrev pub keep : (A → Bool) → List A → List A
   keep p [] = []
   keep p (x ∷ xs) = keepIf (p x) x (keep p xs)
-
-  abbrev pub some : (A → Bool) → List A → Bool
-  some p [] = false
-  some p (x ∷ xs) = p x || some p xs
 
   abbrev pub every : (A → Bool) → List A → Bool
   every p [] = true

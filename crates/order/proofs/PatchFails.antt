@@ -1,22 +1,29 @@
 -- The failing pairs of a patched listing are, in the old numbers, those old failing pairs that have a walk with no barrier
 -- inside which passes no mark; so acceptance is monotone in the map.
 use mathlib.Core.Path.{_≡_, sym, _∙_}
-use mathlib.Core.Logic.{_⊎_, inl, inr}
+use mathlib.Core.Logic.{_⊎_, inl, inr, _↔_}
 use mathlib.Core.List.{List, _∷_}
 use mathlib.Core.Bool.{true, false, false≢true}
 use Prim.Native.Nat.{ℕ, _≤_}
 use lib.ListN.{length}
 use Rattle.listing.specs.Node.{Listing}
+use Rattle.order.specs.Walks.{Access}
+use Rattle.order.specs.Chains.{MayMeet}
 use Rattle.order.specs.Verdict.{Fails, Robust}
 use Rattle.order.specs.Patched.{Marks, marked, patched}
 use Rattle.order.specs.With.{Unmarked, FailsWith}
 use Rattle.listing.proofs.Bools.{bool?}
 use Rattle.order.proofs.Lists.{all-in, in-all}
+use Rattle.order.proofs.Renaming.{meets-same}
 use Rattle.order.proofs.RenamingFails.{fails-kept}
 use Rattle.order.proofs.Patch.{Links}
 use Rattle.order.proofs.PatchWalk.{patched-renamed}
 
 module _ (L : Listing) (ms : Marks) (links : Links L) (small : length (patched L ms) ≤ 255) where
+  -- old accesses meet exactly if they did: a fence writes nothing
+  pub patched-meets : (a b : ℕ) → Access L a → Access L b → MayMeet L a b ↔ MayMeet (patched L ms) a b
+  patched-meets = meets-same (patched-renamed L ms links small)
+
   -- the same pairs fail with the map and in the patched listing
   pub patched-fails : (q a b : ℕ) → Fails q (patched L ms) a b → FailsWith q L ms a b
   patched-fails q a b f = let g = fails-kept (patched-renamed L ms links small) q a b .1 f in record { fails = g .fails; walk-open = g .walk-open }

@@ -6,10 +6,11 @@ use Prim.Native.Nat.{ℕ}
 use lib.Dec.{T}
 use Rattle.listing.specs.Node.{Listing}
 use Rattle.order.specs.Rows.{All}
-use Rattle.order.specs.Walks.{kindAt, locAt, countsRmw, isAccess, Access, Walk}
-use Rattle.order.specs.Chains.{overlap, MayMeet, surely, SurelyMeet, Ends, IsPair, Joined, Chain}
+use Rattle.order.specs.Walks.{kindAt, locAt, countsRmw, isWriter, isAccess, Access, Walk}
+use Rattle.order.specs.Chains.{overlap, written, MayMeet, surely, SurelyMeet, Ends, IsPair, Joined, Chain}
 use Rattle.order.specs.Need.{question, Entry, need, leave, leaveUnlessRmw, entry, RmwInside, Says, Needs, classOf, classAt, bars, Unbarred}
 use Rattle.order.proofs.Laws.{enough-kept, bars-fence, bars-plain}
+use Rattle.order.proofs.Meeting.{writer-access, written-checked, meets-written}
 use Rattle.order.proofs.Mapped.{some-mapped, all-mapped, all-from, mapped-different, different-mapped, row-mapped}
 use Rattle.order.proofs.Inside.{Inside, inside-some, inside-no}
 
@@ -41,10 +42,36 @@ module _ {f : ℕ → ℕ} {Open : ℕ → List ℕ → Type 0} {L M : Listing} 
   access-there : (a : ℕ) → Access L a → Access M (f a)
   access-there a t = subst (λ (k : ℕ). T (isAccess k)) (sym (r .kind a t)) t
 
+  -- writers are accesses, and so every one is there and no other
+  written-same : (x y : ℕ) → T (written L x y) ↔ T (written M x y)
+  written-same x y =
+      let l = written-checked L x y in
+      let m = written-checked M x y in (
+        λ h.
+            let w = l .0 h in
+            let t = writer-access (kindAt L (w .0)) (w .1) in
+            let o = subst (λ (z : ℕ). T (overlap z x) × T (overlap z y)) (sym (r .location (w .0) t)) (w .2, w .3) in
+            m .1 (f (w .0), subst (λ (k : ℕ). T (isWriter k)) (sym (r .kind (w .0) t)) (w .1), o .0, o .1),
+        λ h.
+            let w = m .0 h in
+            let v = r .hit (w .0) (writer-access (kindAt M (w .0)) (w .1)) in
+            let k = ap (kindAt M) (sym (v .1)) ∙ r .kind (v .0) (v .2) in
+            let e = ap (locAt M) (sym (v .1)) ∙ r .location (v .0) (v .2) in
+            let o = subst (λ (z : ℕ). T (overlap z x) × T (overlap z y)) e (w .2, w .3) in
+            l .1 (v .0, subst (λ (k : ℕ). T (isWriter k)) k (w .1), o .0, o .1),
+      )
+
   -- ── Two accesses ────────────────────────────────────────────────────────────
   module _ (a b : ℕ) (s : Access L a) (t : Access L b) where
     pub meets-same : MayMeet L a b ↔ MayMeet M (f a) (f b)
-    meets-same = let e = ap₂ overlap (r .location a s) (r .location b t) in (subst T (sym e), subst T e)
+    meets-same =
+        let both : ℕ → ℕ → Type 0 = λ x y. T (overlap x y) × T (written M x y) in
+        let m = meets-written L a b s t in
+        let n = meets-written M (f a) (f b) (access-there a s) (access-there b t) in
+        let w = written-same (locAt L a) (locAt L b) in (
+          λ h. let g = m .0 h in n .1 (subst₂ both (sym (r .location a s)) (sym (r .location b t)) (g .0, w .0 (g .1))),
+          λ h. let g = subst₂ both (r .location a s) (r .location b t) (n .0 h) in m .1 (g .0, w .1 (g .1)),
+        )
 
     pub surely-same : SurelyMeet L a b ↔ SurelyMeet M (f a) (f b)
     surely-same = let e = ap₂ surely (r .location a s) (r .location b t) in (subst T (sym e), subst T e)

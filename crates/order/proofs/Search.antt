@@ -8,10 +8,10 @@ use native.Mathlib.Omega.{arith}
 use native.Mathlib.Decide.{ℕ-discrete}
 use lib.Dec.{T}
 use lib.ListN.{length}
-use Rattle.order.specs.Rows.{All, In, Row}
+use Rattle.order.specs.Rows.{All, In, some, Row}
 use Rattle.listing.proofs.Bools.{both, both→, one, one→}
 use Rattle.order.proofs.Lists.{all-in, in-all, in-left, in-right, in-either, pigeons}
-use Rattle.order.proofs.Lists.{keepIf, keep, some, in-keepIf, keepIf-in, in-keep, keep-in, some-in, in-some}
+use Rattle.order.proofs.Lists.{keepIf, keep, in-keepIf, keepIf-in, in-keep, keep-in, some-in, in-some}
 use Rattle.order.proofs.Mapped.{in-mapped, mapped-in}
 use Rattle.order.proofs.Shorten.{Simple, simple}
 

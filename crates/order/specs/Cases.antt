@@ -1,8 +1,8 @@
 -- The rehearsed listings, cases A to L, as one table. It serves computed tests alone: `cases-right` in proofs/Cases.antt says that every row is right.
-use mathlib.Core.List.{List, [], _∷_}
+use mathlib.Core.List.{List, [], _∷_, _++_}
 use mathlib.Core.Bool.{true, false}
 use Prim.Native.Nat.{ℕ}
-use Rattle.listing.specs.Kinds.{READ, WRITE, RMW, FENCE}
+use Rattle.listing.specs.Kinds.{PLAIN, READ, WRITE, RMW, FENCE}
 use Rattle.listing.specs.Node.{Node, none, Listing}
 use Rattle.order.specs.Verdict.{Verdict, robust, opened, Judged}
 use Rattle.order.specs.Patched.{Marks, patched}
@@ -105,8 +105,56 @@ cases =
     ∷ of 1 caseH [] (opened (0, 2) ((3, 5) ∷ []))
     ∷ of 1 (caseJ block) [] (opened (0, 1) ((2, 3) ∷ []))
     ∷ of 1 (caseJ x) [] robust
-    ∷ of 1 caseK [] (opened (0, 1) ((1, 0) ∷ []))
+    ∷ of 1 caseK [] robust
     ∷ of 2 caseL [] robust
+    ∷ []
+
+-- ── Where somebody writes a cell that is read, or nobody does ───────────────
+-- one node more, "a routine of [..] own": r
+abbrev also : ℕ → ℕ → ℕ → Listing → Listing
+also r k l L = L ++ (at r k l none none ∷ [])
+
+-- "K and 2 write y"
+abbrev writtenK : Listing
+writtenK = also 1 WRITE y caseK
+
+-- "0 read x, 1 read y; 2 read y, 3 read x"
+abbrev readers : Listing
+readers = at 0 READ x 1 none ∷ at 0 READ y none none ∷ at 1 READ y 3 none ∷ at 1 READ x none none ∷ []
+
+-- "0 read unknown, 1 write y; 2 read y, 3 read x"
+abbrev unknownRead : Listing
+unknownRead = at 0 READ 0 1 none ∷ at 0 WRITE y none none ∷ at 1 READ y 3 none ∷ at 1 READ x none none ∷ []
+
+-- "0 read unknown, 1 read unknown; 2 and 3 alike"
+abbrev bothUnknown : Listing
+bothUnknown = at 0 READ 0 1 none ∷ at 0 READ 0 none none ∷ at 1 READ 0 3 none ∷ at 1 READ 0 none none ∷ []
+
+-- "all: ROBUST"
+abbrev always : Listing → List Case
+always L = of 1 L [] robust ∷ of 2 L [] robust ∷ of 3 L [] robust ∷ of 4 L [] robust ∷ []
+
+-- "1: ROBUST; 2, 3 and 4: OPEN 0 1, chain 0-1 2-3"
+abbrev onArm : Listing → List Case
+onArm L =
+    let v = opened (0, 1) ((2, 3) ∷ []) in
+    of 1 L [] robust ∷ of 2 L [] v ∷ of 3 L [] v ∷ of 4 L [] v ∷ []
+
+-- "where somebody writes a cell that is read, or nobody does": one line a listing
+abbrev pub meetings : List (List Case)
+meetings =
+    always caseK
+    ∷ (of 1 writtenK [] (opened (0, 1) ((1, 0) ∷ [])) ∷ [])
+    ∷ always readers
+    ∷ always (also 2 WRITE x readers)
+    ∷ onArm (also 3 WRITE y (also 2 WRITE x readers))
+    ∷ onArm (also 2 WRITE 0 readers)
+    ∷ onArm (also 2 RMW 0 readers)
+    ∷ always (also 3 FENCE 0 (also 2 PLAIN 0 readers))
+    ∷ always unknownRead
+    ∷ onArm (also 2 WRITE x unknownRead)
+    ∷ always bothUnknown
+    ∷ onArm (also 2 WRITE z bothUnknown)
     ∷ []
 
 -- "Skipping the pair of a node with itself in a loop: a write to a block can follow itself": 0 write block to 0; 1 write block to 1
@@ -116,7 +164,7 @@ ownPairs = at 0 WRITE block 0 none ∷ at 1 WRITE block 1 none ∷ []
 -- "Using one neighbour before and one after as if that closed a chain": 2-3 follows 0-1 and 4-5
 -- leads to it, but 2-3 does not lead to 4-5
 abbrev pub neighbours : Listing
-neighbours = at 0 WRITE x 1 none ∷ at 0 READ y none none ∷ at 1 READ y 3 none ∷ at 1 READ z none none ∷ at 2 READ w 5 none ∷ at 2 WRITE x none none ∷ []
+neighbours = at 0 WRITE x 1 none ∷ at 0 READ y none none ∷ at 1 WRITE y 3 none ∷ at 1 READ z none none ∷ at 2 READ w 5 none ∷ at 2 WRITE x none none ∷ []
 
 -- two of the rules' "shortcuts that look right", as rows
 abbrev pub shortcuts : List Case

@@ -1,11 +1,11 @@
 -- Meeting, joining and chains.
 use mathlib.Core.List.{List, _∷_}
-use mathlib.Core.Bool.{Bool, _&&_, _||_}
+use mathlib.Core.Bool.{Bool, not, _&&_, _||_}
 use Prim.Native.Nat.{ℕ}
 use lib.Dec.{T, eqb, leb}
 use Rattle.listing.specs.Node.{Listing}
-use Rattle.order.specs.Rows.{All, Different, Some, Row}
-use Rattle.order.specs.Walks.{locAt, Pair}
+use Rattle.order.specs.Rows.{All, Different, some, Some, Row}
+use Rattle.order.specs.Walks.{kindAt, locAt, countsRead, isWriter, Pair}
 
 -- "Location 0 on an access: unknown, may be any cell"
 abbrev pub isUnknown : ℕ → Bool
@@ -19,9 +19,17 @@ isCell x = leb 1 x && leb x 32767
 abbrev pub overlap : ℕ → ℕ → Bool
 overlap x y = isUnknown x || (isUnknown y || eqb x y)
 
--- "Two accesses may meet"
+-- "two reads": "one node twice" among them
+abbrev pub twoReads : Listing → ℕ → ℕ → Bool
+twoReads L b c = countsRead (kindAt L b) && countsRead (kindAt L c)
+
+-- "the listing has a write or an RMW that may meet both of them", who stand at x and y
+abbrev pub written : Listing → ℕ → ℕ → Bool
+written L x y = some (λ w. isWriter (w .kind) && (overlap (w .location) x && overlap (w .location) y)) L
+
+-- "Two accesses may meet"; "two reads may meet only if the listing has a write or an RMW that may meet both of them"
 abbrev pub meets : Listing → ℕ → ℕ → Bool
-meets L b c = overlap (locAt L b) (locAt L c)
+meets L b c = overlap (locAt L b) (locAt L c) && (not (twoReads L b c) || written L (locAt L b) (locAt L c))
 
 abbrev pub MayMeet : Listing → ℕ → ℕ → Type 0
 MayMeet L b c = T (meets L b c)

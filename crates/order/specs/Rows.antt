@@ -2,6 +2,7 @@
 use mathlib.Core.Path.{_≡_}
 use mathlib.Core.Logic.{_⊎_}
 use mathlib.Core.List.{List, [], _∷_}
+use mathlib.Core.Bool.{Bool, false, _||_}
 
 module _ {A : Type 0} where
   -- p holds of every entry
@@ -18,6 +19,11 @@ module _ {A : Type 0} where
   abbrev pub Different : List A → Type 0
   Different [] = Unit {0}
   Different (x ∷ xs) = (In x xs → ⊥) × Different xs
+
+  -- some entry passes the test
+  abbrev pub some : (A → Bool) → List A → Bool
+  some t [] = false
+  some t (x ∷ xs) = t x || some t xs
 
   -- there is an entry
   abbrev pub Some : List A → Type 0

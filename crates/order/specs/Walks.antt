@@ -26,9 +26,13 @@ countsWrite k = eqb k WRITE
 abbrev pub countsRmw : ℕ → Bool
 countsRmw k = eqb k RMW
 
+-- "a write or an RMW"
+abbrev pub isWriter : ℕ → Bool
+isWriter k = countsWrite k || countsRmw k
+
 -- "Kinds 1 to 3 are accesses"
 abbrev pub isAccess : ℕ → Bool
-isAccess k = countsRead k || (countsWrite k || countsRmw k)
+isAccess k = countsRead k || isWriter k
 
 abbrev pub isFence : ℕ → Bool
 isFence k = eqb k FENCE

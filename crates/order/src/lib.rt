@@ -2,7 +2,7 @@
 ghost use mathlib.Core.Path.{_≡_};
 ghost use Prim.Native.Nat.{_<_};
 ghost use Rattle.listing.specs.Kinds.{KINDS};
-ghost use Rattle.order.specs.Walks.{isAccess};
+ghost use Rattle.order.specs.Walks.{isWriter, isAccess};
 ghost use Rattle.order.specs.Chains as chains;
 ghost use Rattle.order.specs.Need.{Asked};
 ghost use Rattle.order.specs.Need as rules;
@@ -46,6 +46,16 @@ const NEED: [[[u8; listing::KINDS]; listing::KINDS]; QUESTIONS] = [
     ],
 ];
 
+// A write or an RMW.
+pub fn is_writer(kind: u8) -> bool
+    ensures { λ r. ⌜ r ≡ isWriter kind ⌝ }
+{
+    if kind == listing::RMW {
+        return true;
+    }
+    kind == listing::WRITE
+}
+
 // Kinds 1 to 3 are accesses.
 pub fn is_access(kind: u8) -> bool
     ensures { λ r. ⌜ r ≡ isAccess kind ⌝ }
@@ -53,23 +63,20 @@ pub fn is_access(kind: u8) -> bool
     if kind == listing::READ {
         return true;
     }
-    if kind == listing::WRITE {
-        return true;
-    }
-    kind == listing::RMW
+    is_writer(kind)
 }
 
-// Two locations may meet: either is unknown, or they are equal.
-pub fn meets(x: usize, y: usize) -> bool
+// Two locations overlap: either is unknown, or they are equal.
+pub fn overlap(x: usize, y: usize) -> bool
     ensures { λ r. ⌜ r ≡ chains.overlap x y ⌝ }
 {
-    if x == 0 {
+    if x == y {
         return true;
     }
     if y == 0 {
         return true;
     }
-    x == y
+    x == 0
 }
 
 // Two locations surely meet: they are equal and name one cell.

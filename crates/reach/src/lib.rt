@@ -189,7 +189,7 @@ pub fn turn(n: usize, w: &[u64; WORDS], v: &mut [u64; WORDS])
 }
 
 // Keeps what ends in s.
-fn keep_columns(n: usize, s: &[u64; 2], w: &mut [u64; WORDS])
+pub fn keep_columns(n: usize, s: &[u64; 2], w: &mut [u64; WORDS])
     requires { ⌜ (n ≤ 128) × Low n (now w) ⌝ }
     ensures { λ _. ⌜ Holds (now (w .exit)) n (EndsIn (now (s .entry)) (now (w .entry))) ⌝ }
 {
@@ -199,7 +199,7 @@ fn keep_columns(n: usize, s: &[u64; 2], w: &mut [u64; WORDS])
 }
 
 // Keeps what starts in s.
-fn keep_rows(n: usize, s: &[u64; 2], w: &mut [u64; WORDS])
+pub fn keep_rows(n: usize, s: &[u64; 2], w: &mut [u64; WORDS])
     requires { ⌜ (n ≤ 128) × Low n (now w) ⌝ }
     ensures { λ _. ⌜ Holds (now (w .exit)) n (StartsIn (now (s .entry)) (now (w .entry))) ⌝ }
 {

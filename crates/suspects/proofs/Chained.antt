@@ -13,8 +13,9 @@ use Rattle.rows.specs.Inner.Rows.{Has, Holds}
 use Rattle.rows.specs.Inner.Touched.{Common}
 use Rattle.rows.proofs.Holds.{holds-map}
 use Rattle.suspects.specs.Inner.Back.{ComesRound, Home, Returns, RowReturns}
-use Rattle.suspects.specs.Inner.Suspect.{Meeting, ClearOf, Clear, OnChain, Suspect}
-use Rattle.suspects.proofs.Counted.{Counted, access-below}
+use Rattle.meetings.specs.Inner.Meeting.{Meeting}
+use Rattle.suspects.specs.Inner.Suspect.{ClearOf, Clear, OnChain, Suspect}
+use Rattle.meetings.proofs.Counted.{Counted, access-below}
 use Rattle.suspects.proofs.OnChain.{chain-returns, returns-chain}
 
 module _ {L : Listing} {n : ℕ} (few : Counted L n) {p m w : List ℕ}

@@ -12,7 +12,7 @@ use Rattle.order.proofs.Lists.{all-in, in-all}
 use Rattle.rows.specs.Inner.Rows.{Has, Holds, Members}
 use Rattle.reach.specs.Inner.Links.{Walked}
 use Rattle.suspects.specs.Inner.Suspect.{ClearOf}
-use Rattle.suspects.proofs.Counted.{Counted, inside-below}
+use Rattle.meetings.proofs.Counted.{Counted, inside-below}
 
 module _ {L : Listing} {n : ℕ} (few : Counted L n) (q e : ℕ) where
   -- c bars ends of class e

@@ -5,12 +5,12 @@ use native.Mathlib.Omega.{arith}
 use Rattle.listing.specs.Node.{Listing}
 use Rattle.order.specs.Rows.{All, Row}
 use Rattle.order.specs.Walks.{Access, Pair}
-use Rattle.order.proofs.Laws.{meets-sym}
+use Rattle.order.proofs.Meeting.{meets-sym}
 use Rattle.rows.specs.Inner.Rows.{Has, Holds, Members, Link}
 use Rattle.reach.specs.Inner.Whole.{Through, Then, Converse, Away}
 use Rattle.suspects.specs.Inner.Back.{Turns, Leads, ComesRound, RowRound}
-use Rattle.suspects.specs.Inner.Suspect.{Meeting}
-use Rattle.suspects.proofs.Counted.{Counted, access-below}
+use Rattle.meetings.specs.Inner.Meeting.{Meeting}
+use Rattle.meetings.proofs.Counted.{Counted, access-below}
 use Rattle.suspects.proofs.OnChain.{turns-lead, lead-turns}
 
 module _ {L : Listing} {n : ℕ} (few : Counted L n) {p m : List ℕ} (hp : Holds p n (Pair L)) (hm : Holds m n (Meeting L)) where

@@ -1,6 +1,4 @@
-pub mod Counted
 pub mod Pairs
-pub mod WhoMeets
 pub mod OnChain
 pub mod LeadingBack
 pub mod Returning

@@ -8,7 +8,7 @@ use Rattle.listing.specs.Node.{Listing}
 use Rattle.order.specs.Rows.{All, In, Row}
 use Rattle.order.specs.Chains.{MayMeet, Ends, IsPair, Joined, Chain}
 use Rattle.order.proofs.Lists.{row-join, in-all, all-in, in-either}
-use Rattle.order.proofs.Laws.{meets-sym}
+use Rattle.order.proofs.Meeting.{meets-sym}
 use Rattle.order.proofs.Least.{through, leads-back}
 use Rattle.suspects.specs.Inner.Back.{Turns, Leads, Home, Returns}
 

@@ -9,7 +9,7 @@ use Rattle.order.proofs.Lists.{in-all}
 use Rattle.rows.specs.Inner.Rows.{Has, Holds, Members}
 use Rattle.reach.specs.Inner.Links.{Walked}
 use Rattle.reach.specs.Inner.Whole.{Among}
-use Rattle.suspects.proofs.Counted.{Counted, inside-below}
+use Rattle.meetings.proofs.Counted.{Counted, inside-below}
 
 module _ {L : Listing} {n : ℕ} (few : Counted L n) {every : List ℕ} (all : Members every n (λ c. Unit {0})) where
   -- every walk is a walk through all nodes

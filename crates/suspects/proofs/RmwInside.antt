@@ -14,7 +14,7 @@ use Rattle.order.proofs.Lists.{in-right, Cut, cut, row-join, row-before, row-af
 use Rattle.rows.specs.Inner.Rows.{Holds, Members}
 use Rattle.reach.specs.Inner.Whole.{Then, EndsIn}
 use Rattle.suspects.specs.Inner.Suspect.{Exchanged}
-use Rattle.suspects.proofs.Counted.{Counted, inside-below}
+use Rattle.meetings.proofs.Counted.{Counted, inside-below}
 
 -- an RMW is an access
 rmw-access : (k : ℕ) → T (countsRmw k) → T (isAccess k)

@@ -1,4 +1,3 @@
 pub mod Back
 pub mod Suspect
-pub mod Picked
 pub mod Returning

@@ -1,52 +1,15 @@
 // The suspects among the pairs of a listing, as rows of bits: all of the failing-pair test that does not depend on one pair.
-mod meetings;
 mod returns;
 
-ghost use mathlib.Core.Path.{_≡_};
-ghost use lib.Dec.{T};
 ghost use Rattle.listing.specs.Bytes.{countN, nodesOf};
 ghost use Rattle.listing.specs.Inner.Whole.{Whole};
-ghost use Rattle.order.specs.Walks.{kindAt, Pair};
-ghost use Rattle.rows.specs.Inner.Rows.{Holds, Members};
+ghost use Rattle.order.specs.Walks.{Pair};
+ghost use Rattle.rows.specs.Inner.Rows.{Holds};
 ghost use Rattle.rows.specs.Inner.Touched.{Common};
-ghost use Rattle.suspects.specs.Inner.Picked.{picked};
 ghost use Rattle.suspects.specs.Inner.Suspect.{ClearOf, Exchanged, OnChain, Suspect, Ready};
+use meetings::Pick;
+use meetings::gather;
 use rows::WORDS;
-
-// Which nodes to gather.
-pub enum Pick {
-    Every,
-    Access,
-    Exchange,
-    Passable { class: usize },
-}
-
-// Whether a node of this kind belongs.
-fn picks(question: u8, pick: Pick, kind: u8) -> bool
-    ensures { λ r. ⌜ r ≡ picked question pick kind ⌝ }
-{
-    match pick {
-        Pick::Every => true,
-        Pick::Access => order::is_access(kind),
-        Pick::Exchange => kind == listing::RMW,
-        Pick::Passable { class } => !order::bars(question, class, kind),
-    }
-}
-
-// The nodes that belong, into the one row of s.
-fn gather(question: u8, bytes: &[u8], pick: Pick, s: &mut [u64; 2])
-    requires { ⌜ Whole (now bytes) ⌝ }
-    ensures { λ _. ⌜ Members (now (s .exit)) (countN (now (bytes .entry))) (λ c. T (picked question pick (kindAt (nodesOf (now (bytes .entry))) c))) ⌝ }
-{
-    rows::clear(s);
-    let n = listing::node_count(bytes);
-    for i in 0..n {
-        let kind = listing::kind_at(bytes, i);
-        if picks(question, pick, kind) {
-            rows::put(s, 0, i);
-        }
-    }
-}
 
 // The pairs: who walks to whom, among accesses.
 fn pair_rows(bytes: &[u8], p: &mut [u64; WORDS])

@@ -6,11 +6,11 @@ ghost use Rattle.order.specs.Walks.{Pair};
 ghost use Rattle.rows.specs.Inner.Rows.{Low, Holds};
 ghost use Rattle.rows.specs.Inner.Growing.{RowGrown};
 ghost use Rattle.rows.specs.Inner.Touched.{Poured};
-ghost use Rattle.suspects.specs.Inner.Suspect.{Meeting};
+ghost use Rattle.meetings.specs.Inner.Meeting.{Meeting};
 ghost use Rattle.suspects.specs.Inner.Back.{ComesRound, RowRound, RowReturns};
 ghost use Rattle.suspects.specs.Inner.Returning.{HomeEnds, Answered};
-use crate::Pick;
-use crate::gather;
+use meetings::Pick;
+use meetings::gather;
 use rows::WORDS;
 
 // The pairs from a whose end meets a node of row a of h, into row a of w.

@@ -13,7 +13,8 @@ use Rattle.listing.proofs.Nodes.{nodes-length}
 use Rattle.order.specs.Walks.{Access, Pair}
 use Rattle.order.specs.Chains.{Ends}
 use Rattle.order.specs.Verdict.{Shown}
-use Rattle.order.proofs.Laws.{access-in, meets-sym}
+use Rattle.order.proofs.Laws.{access-in}
+use Rattle.order.proofs.Meeting.{meets-sym}
 use Rattle.rows.specs.Inner.Rows.{Has, Link}
 use Rattle.rows.specs.Inner.Touched.{Removed, Copied}
 use Rattle.chains.specs.Inner.Far.{Goal}

@@ -5,7 +5,7 @@ use std::hint::black_box;
 use std::time::{Duration, Instant};
 
 use compare::{Service, Side};
-use inputs::{length, Call, Random, Shape, CHAIN_BUFFER, NODES, QUESTIONS, SHAPES};
+use inputs::{Call, Random, Shape, NODES, QUESTIONS, SHAPES};
 
 const SEED: u64 = 128;
 const LISTINGS_A_SHAPE: usize = 20;
@@ -77,9 +77,7 @@ fn calls(shape: Shape, size: usize, one_place_in: usize) -> Vec<Call> {
             map[place * nodes / places] = 1;
         }
         for question in 1..=QUESTIONS as u64 {
-            let (listing, map) = (listing.clone(), map.clone());
-            let (chain_room, listing_room) = (CHAIN_BUFFER, length(size));
-            calls.push(Call { question, listing, map, chain_room, map_room: nodes, listing_room, text: vec![], text_room: 0 });
+            calls.push(Call::of_listing(question, listing.clone(), map.clone()));
         }
     }
     calls

@@ -8,7 +8,8 @@ use Rattle.order.specs.Walks.{Pair}
 use Rattle.order.specs.Need.{Asked}
 use Rattle.order.specs.Verdict.{Fails, Before}
 use Rattle.rows.specs.Inner.Rows.{Holds}
-use Rattle.suspects.specs.Inner.Suspect.{Meeting, Suspect, Exchanged}
+use Rattle.meetings.specs.Inner.Meeting.{Meeting}
+use Rattle.suspects.specs.Inner.Suspect.{Suspect, Exchanged}
 
 -- a question that can be asked, a listing's bytes, the rows of its suspects, and the rows of an RMW inside
 pub record Prepared (q : ℕ) (bytes c i : List ℕ) : Type 0 where

@@ -6,11 +6,11 @@ use Rattle.order.proofs.is_access.Tie as tie
 returns : tie.Need-returns
 returns c = simp (eq-eqb _ _ (c .if1 .taken))
 
-returns-2 : tie.Need-returns-2
-returns-2 c = simp (ne-eqb _ _ (c .before .if1 .left), eq-eqb _ _ (c .if2 .taken))
+is-writer-requires : tie.Need-is-writer-requires
+is-writer-requires c κs = tt
 
-returns-3 : tie.Need-returns-3
-returns-3 c = simp (ne-eqb _ _ (c .before .if1 .left), ne-eqb _ _ (c .if2 .left))
+returns-2 : tie.Need-returns-2
+returns-2 c = rw (ne-eqb _ _ (c .before .if1 .left)) (c .is-writer .ensures)
 
 pub is-access-spec : {M : Type 1} → statement M
-is-access-spec = tie.close (tie.spec returns returns-2 returns-3)
+is-access-spec = tie.close (tie.spec returns is-writer-requires returns-2)

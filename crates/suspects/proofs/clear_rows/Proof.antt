@@ -1,6 +1,6 @@
 -- `suspects::clear_rows` meets its contract.
 use borrow.Author.Needs.{needs}
-use Rattle.suspects.proofs.Counted.{counted}
+use Rattle.meetings.proofs.Counted.{counted}
 use Rattle.suspects.proofs.ClearWalks.{clear-hold}
 use Rattle.suspects.proofs.clear_rows.Statement.{statement}
 use Rattle.suspects.proofs.clear_rows.Tie as tie

@@ -3,7 +3,7 @@ use borrow.Author.Needs.{needs}
 use native.Mathlib.Omega.{arith}
 use Rattle.rows.specs.Inner.Rows.{Low}
 use Rattle.rows.proofs.Holds.{holds-low}
-use Rattle.suspects.proofs.Counted.{counted, low-at}
+use Rattle.meetings.proofs.Counted.{counted, low-at}
 use Rattle.suspects.proofs.RmwInside.{exchanged-hold}
 use Rattle.suspects.proofs.exchanged_rows.Statement.{statement}
 use Rattle.suspects.proofs.exchanged_rows.Tie as tie

@@ -5,7 +5,7 @@ use native.Mathlib.Omega.{arith}
 use Rattle.listing.specs.Bytes.{countN, nodesOf}
 use Rattle.order.specs.Need.{CLASSES}
 use Rattle.rows.specs.Inner.Rows.{Holds}
-use Rattle.suspects.proofs.Counted.{counted}
+use Rattle.meetings.proofs.Counted.{counted}
 use Rattle.suspects.proofs.Chained.{ClearBelow, clear-none, clear-more, clear-all}
 use Rattle.suspects.proofs.keep_clear.Statement.{statement}
 use Rattle.suspects.proofs.keep_clear.Tie as tie

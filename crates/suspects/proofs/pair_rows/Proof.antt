@@ -1,7 +1,7 @@
 -- `suspects::pair_rows` meets its contract.
 use borrow.Author.Needs.{needs}
 use native.Mathlib.Omega.{arith}
-use Rattle.suspects.proofs.Counted.{counted, low-at}
+use Rattle.meetings.proofs.Counted.{counted, low-at}
 use Rattle.suspects.proofs.Pairs.{pairs-hold}
 use Rattle.suspects.proofs.pair_rows.Statement.{statement}
 use Rattle.suspects.proofs.pair_rows.Tie as tie

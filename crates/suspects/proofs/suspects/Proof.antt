@@ -1,7 +1,7 @@
 -- `suspects::suspects` meets its contract.
 use borrow.Author.Needs.{needs}
 use native.Mathlib.Omega.{arith}
-use Rattle.suspects.proofs.Counted.{counted, low-at}
+use Rattle.meetings.proofs.Counted.{counted, low-at}
 use Rattle.suspects.proofs.Chained.{chain-hold}
 use Rattle.suspects.proofs.suspects.Statement.{statement}
 use Rattle.suspects.proofs.suspects.Tie as tie

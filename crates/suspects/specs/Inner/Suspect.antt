@@ -1,25 +1,15 @@
 -- What the rows of the failing-pair test keep, relation by relation.
-use mathlib.Core.Path.{_≡_}
 use mathlib.Core.List.{List}
-use Prim.Native.Nat.{ℕ, _≤_, _<_}
+use Prim.Native.Nat.{ℕ}
 use lib.Dec.{T}
 use Rattle.listing.specs.Node.{Listing}
 use Rattle.listing.specs.Bytes.{countN, nodesOf}
 use Rattle.order.specs.Rows.{All}
-use Rattle.order.specs.Walks.{kindAt, locAt, Access, Walk, Pair}
-use Rattle.order.specs.Chains.{MayMeet, Ends, Chain}
+use Rattle.order.specs.Walks.{kindAt, Access, Walk, Pair}
+use Rattle.order.specs.Chains.{Ends, Chain}
 use Rattle.order.specs.Need.{RmwInside, question, classAt, bars}
 use Rattle.rows.specs.Inner.Rows.{Holds}
-
--- two accesses that may meet
-abbrev pub Meeting : Listing → ℕ → ℕ → Type 0
-Meeting L a b = Access L a × Access L b × MayMeet L a b
-
--- r is an earlier access with a's location, or a
-pub record Twin (L : Listing) (a r : ℕ) : Type 0 where
-  pub low : r ≤ a
-  pub access : r < a → Access L r
-  pub same : r < a → locAt L r ≡ locAt L a
+use Rattle.meetings.specs.Inner.Meeting.{Meeting}
 
 -- some walk from a to b has nothing inside that bars ends of class e
 abbrev pub ClearOf : ℕ → ℕ → Listing → ℕ → ℕ → Type 0

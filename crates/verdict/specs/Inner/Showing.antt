@@ -11,7 +11,8 @@ use Rattle.order.specs.Walks.{Pair}
 use Rattle.order.specs.Chains.{Ends}
 use Rattle.order.specs.Verdict.{Shown}
 use Rattle.rows.specs.Inner.Rows.{Holds}
-use Rattle.suspects.specs.Inner.Suspect.{Meeting, OnChain}
+use Rattle.meetings.specs.Inner.Meeting.{Meeting}
+use Rattle.suspects.specs.Inner.Suspect.{OnChain}
 use Rattle.verdict.specs.Judging.{chainBytes}
 
 -- the rows p keep the pairs of the listing's bytes, the rows m who meets whom, and (a, b) lies on a chain

@@ -2,7 +2,7 @@
 use borrow.Author.Needs.{needs}
 use native.Mathlib.Omega.{arith}
 use Rattle.rows.proofs.Holds.{holds-low}
-use Rattle.suspects.proofs.Counted.{counted, low-at}
+use Rattle.meetings.proofs.Counted.{counted, low-at}
 use Rattle.suspects.proofs.LeadingBack.{leads-hold, around-hold}
 use Rattle.suspects.proofs.returns.around_rows.Statement.{statement}
 use Rattle.suspects.proofs.returns.around_rows.Tie as tie
