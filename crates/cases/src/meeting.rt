@@ -1,4 +1,4 @@
-// Where somebody writes a cell that is read, or nobody does.
+// Where somebody writes a cell that is read, or nobody does. The other rows of that table bench/compare asks of the archive.
 use crate::judging::case;
 
 // A loop over a cell that nobody writes, and over one that somebody does.
@@ -18,7 +18,7 @@ fn loops() {
     );
 }
 
-// Two routines that read two cells in opposite orders: nobody writes, one cell is written, both are.
+// Two routines that read two cells in opposite orders: nobody writes, and an RMW of an unknown cell does.
 fn readers() {
     case(
         b"readers",
@@ -29,38 +29,6 @@ fn readers() {
           \x01\x01\x01\x00\xFF\xFF",
     );
     case(
-        b"one of two cells",
-        b"ORD\x01\x00\x03\x05\
-          \x00\x01\x01\x00\x01\xFF\
-          \x00\x01\x02\x00\xFF\xFF\
-          \x01\x01\x02\x00\x03\xFF\
-          \x01\x01\x01\x00\xFF\xFF\
-          \x02\x02\x01\x00\xFF\xFF",
-    );
-    case(
-        b"both cells",
-        b"ORD\x01\x00\x04\x06\
-          \x00\x01\x01\x00\x01\xFF\
-          \x00\x01\x02\x00\xFF\xFF\
-          \x01\x01\x02\x00\x03\xFF\
-          \x01\x01\x01\x00\xFF\xFF\
-          \x02\x02\x01\x00\xFF\xFF\
-          \x03\x02\x02\x00\xFF\xFF",
-    );
-}
-
-// The same with writers of unknown cells, and with nodes that write nothing.
-fn unknown_writers() {
-    case(
-        b"an unknown cell",
-        b"ORD\x01\x00\x03\x05\
-          \x00\x01\x01\x00\x01\xFF\
-          \x00\x01\x02\x00\xFF\xFF\
-          \x01\x01\x02\x00\x03\xFF\
-          \x01\x01\x01\x00\xFF\xFF\
-          \x02\x02\x00\x00\xFF\xFF",
-    );
-    case(
         b"an unknown RMW",
         b"ORD\x01\x00\x03\x05\
           \x00\x01\x01\x00\x01\xFF\
@@ -69,20 +37,10 @@ fn unknown_writers() {
           \x01\x01\x01\x00\xFF\xFF\
           \x02\x03\x00\x00\xFF\xFF",
     );
-    case(
-        b"no writer",
-        b"ORD\x01\x00\x04\x06\
-          \x00\x01\x01\x00\x01\xFF\
-          \x00\x01\x02\x00\xFF\xFF\
-          \x01\x01\x02\x00\x03\xFF\
-          \x01\x01\x01\x00\xFF\xFF\
-          \x02\x00\x00\x00\xFF\xFF\
-          \x03\x04\x00\x00\xFF\xFF",
-    );
 }
 
-// Reads of unknown cells.
-fn unknown_reads() {
+// A read of an unknown cell and one of x: a write meets only the first, and another one both.
+fn unknown_read() {
     case(
         b"an unknown read",
         b"ORD\x01\x00\x02\x04\
@@ -100,28 +58,10 @@ fn unknown_reads() {
           \x01\x01\x01\x00\xFF\xFF\
           \x02\x02\x01\x00\xFF\xFF",
     );
-    case(
-        b"unknown reads",
-        b"ORD\x01\x00\x02\x04\
-          \x00\x01\x00\x00\x01\xFF\
-          \x00\x01\x00\x00\xFF\xFF\
-          \x01\x01\x00\x00\x03\xFF\
-          \x01\x01\x00\x00\xFF\xFF",
-    );
-    case(
-        b"and any cell written",
-        b"ORD\x01\x00\x03\x05\
-          \x00\x01\x00\x00\x01\xFF\
-          \x00\x01\x00\x00\xFF\xFF\
-          \x01\x01\x00\x00\x03\xFF\
-          \x01\x01\x00\x00\xFF\xFF\
-          \x02\x02\x03\x00\xFF\xFF",
-    );
 }
 
 pub fn meeting() {
     loops();
     readers();
-    unknown_writers();
-    unknown_reads();
+    unknown_read();
 }

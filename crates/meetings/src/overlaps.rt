@@ -42,7 +42,7 @@ fn twin(bytes: &[u8], a: usize) -> usize
     a
 }
 
-// The same, into row a of m. Nodes at one location overlap the same.
+// The nodes whose locations overlap a's, into row a of m: copied from a node at the same location where one is near.
 fn overlap_row(bytes: &[u8], m: &mut [u64; WORDS], a: usize)
     requires { ⌜ Whole (now bytes) × (a < countN (now bytes)) × RowsDone (Overlapping (nodesOf (now bytes))) (now m) a (countN (now bytes)) ⌝ }
     ensures { λ _. ⌜ RowGrown (Overlapping (nodesOf (now (bytes .entry)))) (now (m .entry)) (now (m .exit)) a (countN (now (bytes .entry))) ⌝ }

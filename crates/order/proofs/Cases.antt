@@ -25,7 +25,7 @@ shortcuts-pass : All (λ c. T (right? c)) shortcuts
 shortcuts-pass = (tt, (tt, (tt, tt)))
 
 cases-pass : All (λ c. T (right? c)) cases
-cases-pass = (tt, (tt, (tt, (tt, (tt, (tt, (tt, (tt, (tt, (tt, (tt, (tt, (tt, (tt, (tt, (tt, (tt, (tt, (tt, (tt, (tt, (tt, (tt, tt)))))))))))))))))))))))
+cases-pass = (tt, (tt, (tt, (tt, (tt, (tt, (tt, (tt, (tt, (tt, (tt, (tt, (tt, (tt, (tt, (tt, (tt, (tt, (tt, (tt, (tt, (tt, tt))))))))))))))))))))))
 
 -- and every listing's rows
 meetings-pass : All (λ cs. T (every right? cs)) meetings

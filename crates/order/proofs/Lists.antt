@@ -9,7 +9,7 @@ use native.Mathlib.Decide.{ℕ-discrete}
 use lib.Dec.{T}
 use lib.ListN.{length, length-append}
 use Rattle.order.specs.Rows.{All, In, some, Different, Row}
-use Rattle.listing.proofs.Bools.{both, one, one→}
+use Rattle.listing.proofs.Bools.{one, one→}
 
 module _ {A : Type 0} where
   pub all-in : (p : A → Type 0) (xs : List A) → All p xs → (x : A) → In x xs → p x

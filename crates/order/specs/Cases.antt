@@ -1,4 +1,4 @@
--- The rehearsed listings, cases A to L, as one table. It serves computed tests alone: `cases-right` in proofs/Cases.antt says that every row is right.
+-- The rehearsed listings as tables. They serve computed tests alone: `cases-right` and `meetings-right` in proofs/Cases.antt say that every row is right.
 use mathlib.Core.List.{List, [], _∷_, _++_}
 use mathlib.Core.Bool.{true, false}
 use Prim.Native.Nat.{ℕ}
@@ -105,7 +105,6 @@ cases =
     ∷ of 1 caseH [] (opened (0, 2) ((3, 5) ∷ []))
     ∷ of 1 (caseJ block) [] (opened (0, 1) ((2, 3) ∷ []))
     ∷ of 1 (caseJ x) [] robust
-    ∷ of 1 caseK [] robust
     ∷ of 2 caseL [] robust
     ∷ []
 

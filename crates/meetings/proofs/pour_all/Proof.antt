@@ -42,8 +42,8 @@ loop-again c =
     let pre = at .before .before .before .pre in
     ⊎-elim
     (λ q.
-    let live = from-more _ _ _ _ _ _ (pre .0) (pre .1) (inv .1) (rw (q .0 .taken) at (has .has .ensures)) (q .3 .ensures) in
-    (omega arith, rw (q .4) live))
+    let more = from-more _ _ _ _ _ _ (pre .0) (pre .1) (inv .1) (rw (q .0 .taken) at (has .has .ensures)) (q .3 .ensures) in
+    (omega arith, rw (q .4) more))
     (λ q. (omega arith, rw (q .1) (from-skip _ _ _ _ _ (inv .1) (rw (q .0 .left) at (has .has .ensures)))))
     (c .if1 .came)
 

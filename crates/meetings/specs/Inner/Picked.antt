@@ -1,4 +1,4 @@
--- Sets of nodes by their kinds, as the failing-pair test gathers them.
+-- Sets of nodes by their kinds.
 use mathlib.Core.Bool.{Bool, true, not}
 use Prim.Native.Nat.{ℕ}
 use Rattle.order.specs.Walks.{isAccess, isWriter, countsRmw}

@@ -1,6 +1,5 @@
 -- `meetings::overlaps::overlap_row` meets its contract.
 use borrow.Author.Needs.{needs}
-use native.Mathlib.Omega.{arith}
 use mathlib.Core.Path.{sym, subst}
 use Prim.Native.Nat.{ℕ, _<_}
 use lib.Dec.{T}
