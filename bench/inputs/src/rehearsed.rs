@@ -65,7 +65,7 @@ pub const CASES: &[Case] = &[
     },
     Case { name: "readers", listing: "r1 r2; r2 r1", map: &[0; 4], lines: ["ROBUST"; QUESTIONS] },
     Case { name: "one of two cells", listing: "r1 r2; r2 r1; w1", map: &[0; 5], lines: ["ROBUST"; QUESTIONS] },
-    Case { name: "both cells", listing: "r1 r2; r2 r1; w1; w2", map: &[0; 6], lines: ON_ARM },
+    Case { name: "both cells", listing: "r1 r2; r2 r1; w1; u2", map: &[0; 6], lines: ON_ARM },
     Case { name: "an unknown cell", listing: "r1 r2; r2 r1; w0", map: &[0; 5], lines: ON_ARM },
     Case { name: "an unknown RMW", listing: "r1 r2; r2 r1; u0", map: &[0; 5], lines: ON_ARM },
     Case { name: "no writer", listing: "r1 r2; r2 r1; p; f", map: &[0; 6], lines: ["ROBUST"; QUESTIONS] },

@@ -29,8 +29,8 @@ pub struct Size {
 #[derive(Clone, Debug, PartialEq, Eq)]
 pub enum Answer {
     /// No pair fails. Left out is a circle that one pair closes with copies of itself alone: where a location is unknown or a block,
-    /// list that routine twice. Whoever writes a shared cell while the routines run must be in the listing: reads of a cell that nobody
-    /// in the listing writes are taken not to matter (docs/LISTING.md).
+    /// list that routine twice. Whoever writes a shared cell while the routines run must be in the listing, be it a loader or a device
+    /// that writes it once: reads of a cell that nobody in the listing writes are taken not to matter (docs/LISTING.md).
     Robust,
     /// A pair fails: the rules do not assure that others see its nodes in order.
     Open {

@@ -1,11 +1,10 @@
--- The rehearsed listings have the answers that the rules give: computed, row by row.
-use mathlib.Core.Logic.{_↔_}
+-- The rehearsed listings have the answers that the rules give: one table, one statement, computed listing by listing.
 use mathlib.Core.List.{List}
 use mathlib.Core.Bool.{Bool}
 use lib.Dec.{T}
 use Rattle.order.specs.Rows.{All}
 use Rattle.order.specs.Patched.{patched}
-use Rattle.order.specs.Cases.{Case, cases, meetings, shortcuts, Right}
+use Rattle.order.specs.Cases.{Case, cases, shortcuts, Right}
 use Rattle.order.proofs.Lists.{every, in-all, all-in}
 use Rattle.order.proofs.Tests.{every-checked}
 use Rattle.order.proofs.Check.{check, checked}
@@ -13,32 +12,27 @@ use Rattle.order.proofs.Check.{check, checked}
 abbrev right? : Case → Bool
 right? c = check (c .question) (patched (c .listing) (c .map)) (c .verdict)
 
--- a row passes the check exactly if it is right
-row-checked : (c : Case) → T (right? c) ↔ Right c
-row-checked c = checked (c .question) (patched (c .listing) (c .map)) (c .verdict)
+-- every row of every listing passes
+abbrev Pass : List (List Case) → Type 0
+Pass = All (λ cs. T (every right? cs))
 
-all-right : (cs : List Case) → All (λ c. T (right? c)) cs → All Right cs
-all-right cs t = in-all Right cs (λ c i. row-checked c .0 (all-in (λ c. T (right? c)) cs t c i))
+-- rows that pass the check are right
+all-right : (rows : List (List Case)) → Pass rows → All (All Right) rows
+all-right rows t =
+    in-all (All Right) rows
+    (λ cs i. every-checked right? Right (λ c. checked (c .question) (patched (c .listing) (c .map)) (c .verdict)) cs .0
+    (all-in (λ cs. T (every right? cs)) rows t cs i))
 
--- what is computed, here and below: every row passes
-shortcuts-pass : All (λ c. T (right? c)) shortcuts
-shortcuts-pass = (tt, (tt, (tt, tt)))
+-- what is computed: each passes
+shortcuts-pass : Pass shortcuts
+shortcuts-pass = (tt, (tt, tt))
 
-cases-pass : All (λ c. T (right? c)) cases
-cases-pass = (tt, (tt, (tt, (tt, (tt, (tt, (tt, (tt, (tt, (tt, (tt, (tt, (tt, (tt, (tt, (tt, (tt, (tt, (tt, (tt, (tt, (tt, tt))))))))))))))))))))))
+cases-pass : Pass cases
+cases-pass = (tt, (tt, (tt, (tt, (tt, (tt, (tt, (tt, (tt, (tt, (tt, (tt, (tt, (tt, (tt, (tt, (tt, (tt, (tt, (tt, (tt, (tt, (tt, tt)))))))))))))))))))))))
 
--- and every listing's rows
-meetings-pass : All (λ cs. T (every right? cs)) meetings
-meetings-pass = (tt, (tt, (tt, (tt, (tt, (tt, (tt, (tt, (tt, (tt, (tt, (tt, tt))))))))))))
-
-pub shortcuts-right : All Right shortcuts
+pub shortcuts-right : All (All Right) shortcuts
 shortcuts-right = all-right shortcuts shortcuts-pass
 
--- EVERY ROW OF THE TABLES IS RIGHT
-pub cases-right : All Right cases
+-- EVERY ROW OF THE TABLE IS RIGHT
+pub cases-right : All (All Right) cases
 cases-right = all-right cases cases-pass
-
-pub meetings-right : All (All Right) meetings
-meetings-right =
-    in-all (All Right) meetings
-    (λ cs i. every-checked right? Right row-checked cs .0 (all-in (λ cs. T (every right? cs)) meetings meetings-pass cs i))

@@ -112,7 +112,7 @@ module _ (L : Listing) (a b : ℕ) where
   abbrev y : ℕ
   y = locAt L b
 
-  -- accesses that meet always have a common writer: where either writes, it is the one
+  -- accesses meet exactly if they overlap and a writer may meet both: where either writes, it is the one
   pub meets-written : Access L a → Access L b → MayMeet L a b ↔ (T (overlap x y) × T (written L x y))
   meets-written s t = (
     λ m. let h = both→ (overlap x y) (not (twoReads L a b) || written L x y) m in (h .0, of (h .0) (one→ (not (twoReads L a b)) (written L x y) (h .1))),

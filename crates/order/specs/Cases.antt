@@ -1,4 +1,4 @@
--- The rehearsed listings as tables. They serve computed tests alone: `cases-right` and `meetings-right` in proofs/Cases.antt say that every row is right.
+-- The rehearsed listings, as one table. It serves computed tests alone: `cases-right` in proofs/Cases.antt says that every row is right.
 use mathlib.Core.List.{List, [], _∷_, _++_}
 use mathlib.Core.Bool.{true, false}
 use Prim.Native.Nat.{ℕ}
@@ -81,33 +81,6 @@ caseK = at 0 WRITE x 1 none ∷ at 0 READ y 0 none ∷ []
 abbrev pub caseL : Listing
 caseL = at 0 WRITE 0 1 none ∷ at 0 WRITE 0 none none ∷ []
 
--- every question that the rules answer for them
-abbrev pub cases : List Case
-cases =
-    of 1 caseA [] (opened (0, 1) ((2, 3) ∷ []))
-    ∷ of 3 caseA [] robust
-    ∷ of 4 caseA [] robust
-    ∷ of 1 caseB [] robust
-    ∷ of 2 caseB [] (opened (0, 1) ((2, 3) ∷ []))
-    ∷ of 3 caseB [] (opened (0, 1) ((2, 3) ∷ []))
-    ∷ of 4 caseB [] (opened (0, 1) ((2, 3) ∷ []))
-    ∷ of 1 caseC [] robust
-    ∷ of 3 caseC [] (opened (0, 1) ((2, 3) ∷ []))
-    ∷ of 4 caseC [] (opened (2, 3) ((0, 1) ∷ []))
-    ∷ of 1 caseA mapD (opened (2, 3) ((0, 1) ∷ []))
-    ∷ of 1 caseA mapE robust
-    ∷ of 2 caseA mapE robust
-    ∷ of 1 caseG [] robust
-    ∷ of 3 caseG [] (opened (0, 1) ((4, 5) ∷ []))
-    ∷ of 4 caseG [] (opened (1, 2) ((3, 4) ∷ []))
-    ∷ of 1 caseF [] robust
-    ∷ of 3 caseF [] (opened (0, 2) ((3, 5) ∷ []))
-    ∷ of 1 caseH [] (opened (0, 2) ((3, 5) ∷ []))
-    ∷ of 1 (caseJ block) [] (opened (0, 1) ((2, 3) ∷ []))
-    ∷ of 1 (caseJ x) [] robust
-    ∷ of 2 caseL [] robust
-    ∷ []
-
 -- ── Where somebody writes a cell that is read, or nobody does ───────────────
 -- one node more, "a routine of [..] own": r
 abbrev also : ℕ → ℕ → ℕ → Listing → Listing
@@ -129,24 +102,41 @@ unknownRead = at 0 READ 0 1 none ∷ at 0 WRITE y none none ∷ at 1 READ y 3 no
 abbrev bothUnknown : Listing
 bothUnknown = at 0 READ 0 1 none ∷ at 0 READ 0 none none ∷ at 1 READ 0 3 none ∷ at 1 READ 0 none none ∷ []
 
+-- ── The answers ─────────────────────────────────────────────────────────────
+-- "OPEN 0 1, chain 0-1 2-3", and "OPEN 2 3, chain 2-3 0-1"
+abbrev forth : Verdict
+forth = opened (0, 1) ((2, 3) ∷ [])
+
+abbrev back : Verdict
+back = opened (2, 3) ((0, 1) ∷ [])
+
 -- "all: ROBUST"
 abbrev always : Listing → List Case
 always L = of 1 L [] robust ∷ of 2 L [] robust ∷ of 3 L [] robust ∷ of 4 L [] robust ∷ []
 
 -- "1: ROBUST; 2, 3 and 4: OPEN 0 1, chain 0-1 2-3"
 abbrev onArm : Listing → List Case
-onArm L =
-    let v = opened (0, 1) ((2, 3) ∷ []) in
-    of 1 L [] robust ∷ of 2 L [] v ∷ of 3 L [] v ∷ of 4 L [] v ∷ []
+onArm L = of 1 L [] robust ∷ of 2 L [] forth ∷ of 3 L [] forth ∷ of 4 L [] forth ∷ []
 
--- "where somebody writes a cell that is read, or nobody does": one line a listing
-abbrev pub meetings : List (List Case)
-meetings =
-    always caseK
+-- every question that the rules answer for them, one line a listing
+abbrev pub cases : List (List Case)
+cases =
+    (of 1 caseA [] forth ∷ of 3 caseA [] robust ∷ of 4 caseA [] robust ∷ [])
+    ∷ onArm caseB
+    ∷ (of 1 caseC [] robust ∷ of 3 caseC [] forth ∷ of 4 caseC [] back ∷ [])
+    ∷ (of 1 caseA mapD back ∷ [])
+    ∷ (of 1 caseA mapE robust ∷ of 2 caseA mapE robust ∷ [])
+    ∷ (of 1 caseG [] robust ∷ of 3 caseG [] (opened (0, 1) ((4, 5) ∷ [])) ∷ of 4 caseG [] (opened (1, 2) ((3, 4) ∷ [])) ∷ [])
+    ∷ (of 1 caseF [] robust ∷ of 3 caseF [] (opened (0, 2) ((3, 5) ∷ [])) ∷ [])
+    ∷ (of 1 caseH [] (opened (0, 2) ((3, 5) ∷ [])) ∷ [])
+    ∷ (of 1 (caseJ block) [] forth ∷ [])
+    ∷ (of 1 (caseJ x) [] robust ∷ [])
+    ∷ always caseK
+    ∷ (of 2 caseL [] robust ∷ [])
     ∷ (of 1 writtenK [] (opened (0, 1) ((1, 0) ∷ [])) ∷ [])
     ∷ always readers
     ∷ always (also 2 WRITE x readers)
-    ∷ onArm (also 3 WRITE y (also 2 WRITE x readers))
+    ∷ onArm (also 3 RMW y (also 2 WRITE x readers))
     ∷ onArm (also 2 WRITE 0 readers)
     ∷ onArm (also 2 RMW 0 readers)
     ∷ always (also 3 FENCE 0 (also 2 PLAIN 0 readers))
@@ -166,8 +156,8 @@ abbrev pub neighbours : Listing
 neighbours = at 0 WRITE x 1 none ∷ at 0 READ y none none ∷ at 1 WRITE y 3 none ∷ at 1 READ z none none ∷ at 2 READ w 5 none ∷ at 2 WRITE x none none ∷ []
 
 -- two of the rules' "shortcuts that look right", as rows
-abbrev pub shortcuts : List Case
-shortcuts = of 2 ownPairs [] (opened (0, 0) ((1, 1) ∷ [])) ∷ of 1 neighbours [] robust ∷ of 2 neighbours [] robust ∷ []
+abbrev pub shortcuts : List (List Case)
+shortcuts = (of 2 ownPairs [] (opened (0, 0) ((1, 1) ∷ [])) ∷ []) ∷ (of 1 neighbours [] robust ∷ of 2 neighbours [] robust ∷ []) ∷ []
 
 -- the row is right
 abbrev pub Right : Case → Type 0
