@@ -34,17 +34,16 @@ fn clear_rows(question: u8, class: usize, bytes: &[u8], f: &mut [u64; WORDS])
     reach::walks(bytes, &free, f);
 }
 
-// Between which accesses some walk has an RMW inside.
-pub fn exchanged_rows(bytes: &[u8], p: &[u64; WORDS], i: &mut [u64; WORDS])
+// Between which accesses some walk has an RMW inside. v is for the work: the pairs whose second node is an RMW.
+pub fn exchanged_rows(bytes: &[u8], p: &[u64; WORDS], v: &mut [u64; WORDS], i: &mut [u64; WORDS])
     requires { ⌜ Whole (now bytes) × Holds (now p) (countN (now bytes)) (Pair (nodesOf (now bytes))) ⌝ }
     ensures { λ _. ⌜ Holds (now (i .exit)) (countN (now (bytes .entry))) (Exchanged (nodesOf (now (bytes .entry)))) ⌝ }
 {
     let n = listing::node_count(bytes);
     let mut rmws = [0u64; 2];
-    let mut to = [0u64; WORDS];
     gather(0, bytes, Pick::Exchange, &mut rmws);
-    reach::columns(n, &rmws, p, &mut to);
-    reach::compose(n, &to, p, i);
+    reach::columns(n, &rmws, p, v);
+    reach::compose(n, v, p, i);
 }
 
 // Keeps of the rows c what f has too.
@@ -55,34 +54,36 @@ fn narrow(f: &[u64; WORDS], c: &mut [u64; WORDS])
 }
 
 // Keeps of the pairs on a chain those with a walk that no barrier bars, class by class. There is one class, and every pair is of it.
-fn keep_clear(question: u8, bytes: &[u8], c: &mut [u64; WORDS])
+// v is for the work: who walks to whom with no barrier inside.
+fn keep_clear(question: u8, bytes: &[u8], v: &mut [u64; WORDS], c: &mut [u64; WORDS])
     requires { ⌜ Whole (now bytes) × Holds (now c) (countN (now bytes)) (OnChain (nodesOf (now bytes))) ⌝ }
     ensures { λ _. ⌜ Holds (now (c .exit)) (countN (now (bytes .entry))) (Suspect question (nodesOf (now (bytes .entry)))) ⌝ }
 {
-    let mut f = [0u64; WORDS];
     for class in 0..order::CLASSES {
-        clear_rows(question, class, bytes, &mut f);
-        narrow(&f, c);
+        clear_rows(question, class, bytes, v);
+        narrow(v, c);
     }
 }
 
-// The pairs, who meets whom, and the suspects: the pairs on a chain with a walk that no barrier bars.
+// The pairs, who meets whom, and the suspects: the pairs on a chain with a walk that no barrier bars. i and v are for the work: i keeps who
+// comes round until c keeps who returns, and v the pairs turned round until c keeps who leads back.
 pub fn suspects(
     question: u8,
     bytes: &[u8],
     p: &mut [u64; WORDS],
     m: &mut [u64; WORDS],
     c: &mut [u64; WORDS],
+    i: &mut [u64; WORDS],
+    v: &mut [u64; WORDS],
 )
     requires { ⌜ Whole (now bytes) ⌝ }
     ensures { λ _. ⌜ Ready question (now (bytes .entry)) (now (p .exit)) (now (m .exit)) (now (c .exit)) ⌝ }
 {
     let n = listing::node_count(bytes);
-    let mut w = [0u64; WORDS];
     pair_rows(bytes, p);
     meetings::meet_rows(bytes, m);
-    returns::around_rows(bytes, p, m, &mut w);
-    returns::returns_rows(n, p, m, &w, c);
+    returns::around_rows(bytes, p, m, v, c, i);
+    returns::returns_rows(n, p, m, i, c);
     narrow(p, c);
-    keep_clear(question, bytes, c);
+    keep_clear(question, bytes, v, c);
 }

@@ -45,22 +45,28 @@ fn come_rows(n: usize, p: &[u64; WORDS], m: &[u64; WORDS], h: &[u64; WORDS], w: 
     }
 }
 
-// Which pairs come round to their first nodes: their end meets a node, other than the first, that leads back to it.
-pub fn around_rows(bytes: &[u8], p: &[u64; WORDS], m: &[u64; WORDS], w: &mut [u64; WORDS])
+// Which pairs come round to their first nodes: their end meets a node, other than the first, that leads back to it. t and h are for the
+// work: the pairs turned round, and who leads back.
+pub fn around_rows(
+    bytes: &[u8],
+    p: &[u64; WORDS],
+    m: &[u64; WORDS],
+    t: &mut [u64; WORDS],
+    h: &mut [u64; WORDS],
+    w: &mut [u64; WORDS],
+)
     requires { ⌜ Whole (now bytes) × Holds (now p) (countN (now bytes)) (Pair (nodesOf (now bytes)))
         × Holds (now m) (countN (now bytes)) (Meeting (nodesOf (now bytes))) ⌝ }
     ensures { λ _. ⌜ Holds (now (w .exit)) (countN (now (bytes .entry))) (ComesRound (nodesOf (now (bytes .entry)))) ⌝ }
 {
     let n = listing::node_count(bytes);
     let mut every = [0u64; 2];
-    let mut back = [0u64; WORDS];
-    let mut leads = [0u64; WORDS];
     gather(0, bytes, Pick::Every, &mut every);
-    reach::turn(n, p, &mut back);
-    reach::compose(n, m, &back, &mut leads);
-    reach::close(n, &every, &mut leads);
-    reach::no_loops(n, &mut leads);
-    come_rows(n, p, m, &leads, w);
+    reach::turn(n, p, t);
+    reach::compose(n, m, t, h);
+    reach::close(n, &every, h);
+    reach::no_loops(n, h);
+    come_rows(n, p, m, h, w);
 }
 
 // The ends of the pairs from a that meet a or come round to it, into s.

@@ -42,10 +42,12 @@ pub fn wrong_question(question: u64) -> bool
 }
 
 // Puts the pairs that follow (a, b) on its chain at the buffer's start, and says how many there are. (a, b) is taken out of the pairs.
+// v is for the work.
 fn follow(
     bytes: &[u8],
     p: &mut [u64; WORDS],
     m: &[u64; WORDS],
+    v: &mut [u64; WORDS],
     a: usize,
     b: usize,
     out: &mut [u8],
@@ -57,16 +59,16 @@ fn follow(
     let mut ends = [0u64; 2];
     rows::copy_row(m, a, &mut ends);
     rows::take_out(p, a, b);
-    let mut v = [0u64; WORDS];
     let mut d = [0u8; Listing::NODES];
-    chains::chain(n, m, p, &ends, b, &mut v, &mut d, out)
+    chains::chain(n, m, p, &ends, b, v, &mut d, out)
 }
 
-// Puts the chain of (a, b) at the buffer's start, and says how many pairs it has.
+// Puts the chain of (a, b) at the buffer's start, and says how many pairs it has. v is for the work.
 fn show_chain(
     bytes: &[u8],
     p: &mut [u64; WORDS],
     m: &[u64; WORDS],
+    v: &mut [u64; WORDS],
     a: usize,
     b: usize,
     out: &mut [u8],
@@ -76,7 +78,7 @@ fn show_chain(
 {
     out[0] = a as u8;
     out[1] = b as u8;
-    follow(bytes, p, m, a, b, &mut out[2..]) + 1
+    follow(bytes, p, m, v, a, b, &mut out[2..]) + 1
 }
 
 // The verdict of a listing whose records are all there.
@@ -95,7 +97,8 @@ pub fn decide(question: u8, bytes: &[u8], chain: &mut [u8]) -> JudgeAnswer
     if first == listing::node_count(bytes) {
         return JudgeAnswer::Robust;
     }
-    let count = show_chain(bytes, &mut p, &m, first, second, chain);
+    // nobody asks for the suspects any more, so their rows serve the work
+    let count = show_chain(bytes, &mut p, &m, &mut c, first, second, chain);
     JudgeAnswer::Open {
         first,
         second,

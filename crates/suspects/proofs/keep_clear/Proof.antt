@@ -11,10 +11,10 @@ use Rattle.suspects.proofs.keep_clear.Statement.{statement}
 use Rattle.suspects.proofs.keep_clear.Tie as tie
 
 abbrev Inv-loop : tie.InvT-loop
-Inv-loop question bytes c₀ f₀ class₀ c f class = (class ≤ CLASSES) × Holds c (countN bytes) (ClearBelow question (nodesOf bytes) class)
+Inv-loop question bytes v₀ c₀ class₀ v c class = (class ≤ CLASSES) × Holds c (countN bytes) (ClearBelow question (nodesOf bytes) class)
 
 abbrev μ-loop : tie.MeasureT-loop
-μ-loop question bytes c₀ f₀ class₀ c f class = CLASSES - class
+μ-loop question bytes v₀ c₀ class₀ v c class = CLASSES - class
 
 -- where the loop began
 abbrev start : tie.At-loop Inv-loop μ-loop → tie.Start Inv-loop μ-loop

@@ -6,11 +6,11 @@ use Rattle.suspects.proofs.Chained.{chain-hold}
 use Rattle.suspects.proofs.suspects.Statement.{statement}
 use Rattle.suspects.proofs.suspects.Tie as tie
 
-abbrev around : tie.After-returns-rows-arg3 → tie.After-around-rows
+abbrev around : tie.After-returns-rows-arg4 → tie.After-around-rows
 around c = c .before .before .before .before
 
 abbrev met : tie.After-around-rows → tie.After-meet-rows
-met c = c .before .before .before .before
+met c = c .before .before .before .before .before .before
 
 node-count-requires : tie.Need-node-count-requires
 node-count-requires c κs = search needs
@@ -36,11 +36,10 @@ narrow-requires c κs = search needs
 
 keep-clear-requires : tie.Need-keep-clear-requires
 keep-clear-requires c κs =
-    let kept = c .before in
+    let kept = c .before .before in
     let returned = kept .before .before .before in
-    let ready = returned .before in
-    let w = ready .before .before .before .before in
-    let m = w .before .before .before .before in
+    let w = around (returned .before) in
+    let m = met w in
     let p = m .before .before in
     let n = p .before .before in
     let pre = n .before .before .pre in (
@@ -51,7 +50,7 @@ keep-clear-requires c κs =
 
 returns : tie.Need-returns
 returns c =
-    let kept = c .before .before in
+    let kept = c .before .before .before in
     let m = met (around (kept .before .before .before .before)) in
     record { pairs = m .before .before .pair-rows .ensures; meetings = m .meet-rows .ensures; suspects = c .keep-clear .ensures }
 

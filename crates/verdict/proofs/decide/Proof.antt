@@ -31,7 +31,7 @@ other c e = c .if1 .left (e ∙ sym (c .before .node-count .ensures .0))
 
 show-chain-requires : tie.Need-show-chain-requires
 show-chain-requires c κs =
-    let e = c .before .before .before in
+    let e = c .before .before .before .before in
     let found = e .before .before in
     let laid = found .before .before .before in
     (chained _ _ _ _ (found .next-failing .ensures) (other e) _ _ _ _ (laid .prepare .ensures), start laid .pre .2)
@@ -42,7 +42,7 @@ same-length c = search needs
 returns-2 : tie.Need-returns-2
 returns-2 c =
     let shown = c .before .before in
-    let e = shown .before .before .before .before in
+    let e = shown .before .before .before .before .before in
     told-open _ _ _ _ (e .before .before .next-failing .ensures) (other e) _ _ _ (shown .show-chain .ensures)
 
 pub decide-spec : {M : Type 1} → statement M

@@ -11,7 +11,7 @@ start c = c .before .before .before
 abbrev counted : tie.After-take-out-arg → tie.After-node-count
 counted c = c .before .before .before
 
-abbrev taken : tie.After-chain-arg2 → tie.After-take-out
+abbrev taken : tie.After-chain-arg3 → tie.After-take-out
 taken c = c .before .before .before .before .before
 
 node-count-requires : tie.Need-node-count-requires
