@@ -1,4 +1,4 @@
-/* How deep the services reach into the stack: each runs on a painted stack of its own, on full listings or on texts from short to long, and the
+/* How deep the services reach into the stack, held to limits: each runs on a painted stack of its own, on full listings or on texts, and the
    deepest touched byte is looked for. */
 #include <pthread.h>
 #include <stdio.h>
@@ -8,34 +8,47 @@
 #include "nyekushiro.h"
 
 enum { NODES = NYEKUSHIRO_MAP_BUFFER, HEADING = 7, RECORD = 6, LISTING = NYEKUSHIRO_LISTING_BUFFER, ROOM = 1 << 20, PAINT = 0xA5 };
+enum { QUESTIONS = 4, SHAPES = 12, LEVELS = 8, LONG = 64 << 20 };
+
+/* The services, and the bytes of stack that each may take at most. */
+enum { THREAD, READ, JUDGE, JUDGE_PATCH, PROPOSE, WRITE, TEXT, SERVICES };
+static const struct {
+    const char *name;
+    size_t most;
+} services[SERVICES] = {{"an empty thread", 0},   {"read", 199},  {"judge", 12 << 10}, {"judge_patch", 12 << 10},
+                        {"propose", 12 << 10}, {"write", 199}, {"text", 1023}};
 
 static uint8_t listing[LISTING], map[NODES], chain[NYEKUSHIRO_CHAIN_BUFFER], proposed[NODES], written[LISTING];
 static size_t listing_length;
-static const char *text;
+static char *text;
 static size_t text_length;
 static nyekushiro_answer answer;
 static uint64_t question;
 static int service;
+static size_t deepest[SERVICES];
+static int shown; /* how often judging showed a chain */
 
 static void *call(void *unused) {
     (void)unused;
     switch (service) {
-    case 0: break; /* what a thread takes by itself */
-    case 1: nyekushiro_read(listing, listing_length); break;
-    case 2: nyekushiro_judge(question, listing, listing_length, chain, sizeof chain); break;
-    case 3: nyekushiro_judge_patch(question, listing, listing_length, map, listing[6], chain, sizeof chain); break;
-    case 4: nyekushiro_propose(question, listing, listing_length, proposed, sizeof proposed); break;
-    case 5: nyekushiro_write(listing, listing_length, map, listing[6], written, sizeof written); break;
-    case 6: answer = nyekushiro_text((const uint8_t *)text, text_length, written, sizeof written); break;
+    case THREAD: break;
+    case READ: answer = nyekushiro_read(listing, listing_length); break;
+    case JUDGE: answer = nyekushiro_judge(question, listing, listing_length, chain, sizeof chain); break;
+    case JUDGE_PATCH: answer = nyekushiro_judge_patch(question, listing, listing_length, map, listing[6], chain, sizeof chain); break;
+    case PROPOSE: answer = nyekushiro_propose(question, listing, listing_length, proposed, sizeof proposed); break;
+    case WRITE: answer = nyekushiro_write(listing, listing_length, map, listing[6], written, sizeof written); break;
+    case TEXT: answer = nyekushiro_text((const uint8_t *)text, text_length, written, sizeof written); break;
     }
     return NULL;
 }
 
-static size_t depth(void) {
+/* Calls the service, and keeps how deep it reached where that is deeper than before. */
+static void measure(int called) {
     uint8_t *stack;
     pthread_t thread;
     pthread_attr_t attributes;
     size_t untouched = 0;
+    service = called;
     if (posix_memalign((void **)&stack, 4096, ROOM)) exit(2);
     memset(stack, PAINT, ROOM);
     pthread_attr_init(&attributes);
@@ -45,7 +58,7 @@ static size_t depth(void) {
     while (untouched < ROOM && stack[untouched] == PAINT) untouched++;
     pthread_attr_destroy(&attributes);
     free(stack);
-    return ROOM - untouched;
+    if (ROOM - untouched > deepest[called]) deepest[called] = ROOM - untouched;
 }
 
 /* Routines of 8 nodes in a line; the cells by `cells`, and the last node of a routine leads back where `loops` is set. */
@@ -65,61 +78,90 @@ static void fill(int nodes, int cells, int loops) {
     listing_length = (size_t)(HEADING + RECORD * nodes);
 }
 
-/* How deep the service reaches on a text; its answer must be that refusal, or a listing for 0. */
-static size_t print_text(const char *name, const char *typed, size_t length, uint64_t refusal, size_t empty) {
-    service = 6, text = typed, text_length = length;
-    size_t d = depth();
+static void measure_listings(void) {
+    for (int shape = 0; shape < SHAPES; shape++) {
+        fill(shape % 2 ? NODES : NODES - 16, 2 + shape * shape, shape % 3 == 0);
+        memset(map, 0, sizeof map);
+        if (shape % 2 == 0) memset(map, 1, 16);
+        for (question = 1; question <= QUESTIONS; question++)
+            for (int called = THREAD; called <= WRITE; called++) {
+                measure(called);
+                shown += called == JUDGE && answer.kind == NYEKUSHIRO_OPEN;
+                /* a full listing takes no further fence, and propose says so only once it has looked at every pair */
+                int full = called == PROPOSE && answer.kind == NYEKUSHIRO_REFUSED && answer.first == NYEKUSHIRO_REFUSED_PLACES;
+                if (answer.kind == NYEKUSHIRO_REFUSED && !full) {
+                    printf("%s refused listing %d: nothing was measured\n", services[called].name, shape);
+                    exit(1);
+                }
+            }
+    }
+}
+
+static void add(const char *words) {
+    size_t length = strlen(words);
+    memcpy(text + text_length, words, length);
+    text_length += length;
+}
+
+/* A block of so many levels more: an item, and at its end a loop ('l') or an either with the rest in its first or second block ('1', '2'),
+   as `kinds` says in turn. */
+static void add_block(int levels, const char *kinds, int at) {
+    char kind = kinds[at % (int)strlen(kinds)];
+    add("{ r 65535 ");
+    if (levels > 0) {
+        add(kind == 'l' ? "loop " : "either ");
+        if (kind == '2') add("{ f } ");
+        add_block(levels - 1, kinds, at + 1);
+        if (kind == '1') add("{ f } ");
+    }
+    add("} ");
+}
+
+/* Measures the text; its answer must be that refusal, or a listing for 0. */
+static void measure_text(const char *name, uint64_t refusal) {
+    measure(TEXT);
     if (answer.first != refusal || answer.kind != (refusal ? NYEKUSHIRO_REFUSED : NYEKUSHIRO_DONE)) {
         printf("text, %s: answered otherwise than it must be\n", name);
         exit(1);
     }
-    printf("text, %s: %zu bytes of stack\n", name, d - empty);
-    return d;
 }
 
-static const char one_item[] = "routine { f }";
-static const char in_first_blocks[] = "routine { either { either { either { either { either { either { either { either { f "
-                                      "} { f } } { f } } { f } } { f } } { f } } { f } } { f } } { f } }";
-static const char in_second_blocks[] = "routine { either { f } { either { f } { either { f } { either { f } { either { f } { either { f } { "
-                                       "either { f } { either { f } { f } } } } } } } } }";
-
-static void print_texts(size_t empty) {
-    static const char heading[] = "routine { ", item[] = "r 1 ";
-    const size_t start = sizeof heading - 1, size = sizeof item - 1, length = start + (64u << 20) + 1;
-    char *items = malloc(length);
-    if (!items) exit(2);
-    memcpy(items, heading, start);
-    for (size_t at = start; at + size < length; at += size) memcpy(items + at, item, size);
-    items[length - 1] = '}';
-
-    size_t little = print_text("one item", one_item, sizeof one_item - 1, 0, empty);
-    print_text("8 deep in first blocks", in_first_blocks, sizeof in_first_blocks - 1, 0, empty);
-    print_text("8 deep in second blocks", in_second_blocks, sizeof in_second_blocks - 1, 0, empty);
-    if (print_text("64 MiB of items", items, length, NYEKUSHIRO_REFUSED_NODES, empty) > little) {
-        printf("64 MiB of items took more stack than one\n");
-        exit(1);
-    }
-    free(items);
+static void measure_texts(void) {
+    static const char *kinds[] = {"1", "2", "l", "1l", "2l", "12", "l12"};
+    text = malloc(LONG + 64);
+    if (!text) exit(2);
+    for (size_t i = 0; i < sizeof kinds / sizeof *kinds; i++)
+        for (int levels = 0; levels <= LEVELS + 1; levels++) {
+            text_length = 0;
+            for (int part = 0; part < 3; part++) add("routine "), add_block(levels, kinds[i], part);
+            measure_text(kinds[i], levels > LEVELS ? NYEKUSHIRO_REFUSED_TEXT : 0);
+            text_length -= 2;
+            measure_text("broken off", NYEKUSHIRO_REFUSED_TEXT);
+        }
+    text_length = 0, add("routine { ");
+    while (text_length < LONG) add("r 1 ");
+    add("}"), measure_text("64 MiB of items", NYEKUSHIRO_REFUSED_NODES);
+    memset(text, 'r', LONG), text_length = LONG, measure_text("a word of 64 MiB", NYEKUSHIRO_REFUSED_TEXT);
+    memset(text, ' ', LONG), text_length = LONG, add("routine "), add_block(LEVELS, "12", 0), measure_text("64 MiB of blanks", 0);
+    free(text);
 }
 
 int main(void) {
-    static const char *names[] = {"thread", "read", "judge", "judge_patch", "propose", "write"};
-    size_t deepest[6] = {0};
-    for (int shape = 0; shape < 12; shape++) {
-        fill(shape % 2 ? NODES : NODES - 16, 2 + shape * shape, shape % 3 == 0);
-        memset(map, 0, sizeof map);
-        if (shape % 2 == 0) memset(map, 1, 16);
-        for (question = 1; question <= 4; question++)
-            for (service = 0; service < 6; service++) {
-                size_t d = depth();
-                if (d > deepest[service]) deepest[service] = d;
-            }
+    int over = 0;
+    measure_listings();
+    if (!shown) {
+        printf("judge showed no chain: how deep that reaches was not measured\n");
+        return 1;
     }
-    for (service = 1; service < 6; service++)
-        if (deepest[service] < deepest[0])
-            printf("%s: less stack than an empty thread touches\n", names[service]);
-        else
-            printf("%s: %zu bytes of stack\n", names[service], deepest[service] - deepest[0]);
-    print_texts(deepest[0]);
-    return 0;
+    measure_texts();
+    for (int i = READ; i < SERVICES; i++) {
+        if (deepest[i] < deepest[THREAD]) {
+            printf("%s: less stack than an empty thread touches\n", services[i].name);
+            return 1;
+        }
+        size_t taken = deepest[i] - deepest[THREAD];
+        over += taken > services[i].most;
+        printf("%s: %zu bytes of stack, %s %zu\n", services[i].name, taken, taken > services[i].most ? "MORE THAN" : "at most", services[i].most);
+    }
+    return over > 0;
 }

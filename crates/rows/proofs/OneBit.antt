@@ -1,16 +1,19 @@
--- One bit put into a row or taken out of it.
+-- One bit asked for by a mask, put into a row or taken out of it.
 use mathlib.Core.Path.{_≡_, refl, sym, ap, _∙_}
+use mathlib.Core.Bool.{Bool, true, false, not}
 use mathlib.Core.Logic.{_⊎_, inl, inr}
 use mathlib.Core.List.{List}
-use Prim.Native.Nat.{ℕ, _+_, _-_, _*_, _/_, _%_, _≤_, _<_, max}
+use Prim.Native.Nat.{ℕ, _+_, _-_, _*_, _/_, _%_, _^_, _≤_, _<_, max}
 use native.Mathlib.Omega.{arith}
 use native.Mathlib.Decide.{ℕ-discrete}
-use lib.Bits.{bitOr}
+use borrow.Author.Tests.{eqb-true, eqb-false}
+use lib.Dec.{eqb}
+use lib.Bits.{bitOr, bitAnd}
 use lib.ListN.{length, getD, set}
 use lib.Seq.{getD-set-same, getD-set-other}
-use Rattle.rows.specs.Inner.Rows.{bit, at, Has}
+use Rattle.rows.specs.Inner.Rows.{Tells, bit, IsSet, at, Has}
 use Rattle.rows.specs.Inner.Touched.{Added, Removed}
-use Rattle.rows.proofs.Bit.{hot, bitLess, bit-or, bit-less, bit-hot-same, bit-hot-other}
+use Rattle.rows.proofs.Bit.{hot, bitLess, bit-or, bit-less, bit-hot-same, bit-hot-other, common-bit, no-common}
 use Rattle.rows.proofs.Places.{at-le}
 
 -- two places are the same or not
@@ -56,6 +59,29 @@ module _
       by (yes e) (yes f) = absurd (ne (omega arith, omega arith))
       by (yes e) (no f) = bit-here x y e ∙ ap (g (at w x y)) (bit-hot-other (b % 64) (y % 64) (omega arith) f) ∙ zero-right (at w x y) (at-le w x y)
       by (no e) f = bit-there x y e
+
+-- a mask of one bit, laid over a word, leaves something exactly if that bit is set
+tells-mask : (x k : ℕ) → x < 2 ^ 64 → k < 64 → Tells (not (eqb (bitAnd x (hot k)) 0)) (IsSet x k)
+tells-mask x k hx hk = by (eqb (bitAnd x (hot k)) 0) refl
+  where
+    only : (i : ℕ) → bit x i ≡ 1 → bit (hot k) i ≡ 1 → Dec (i ≡ k) → IsSet x k
+    only i s h (yes e) = rw e at s
+    only i s h (no e) = let z = bit-hot-other k i hk e in absurd (omega arith)
+
+    by : (r : Bool) → eqb (bitAnd x (hot k)) 0 ≡ r → Tells (not r) (IsSet x k)
+    by true e = λ s. no-common x (hot k) k (eqb-true _ _ e) s (bit-hot-same k hk)
+    by false e =
+        let c = common-bit x (hot k) hx (omega arith) (eqb-false _ _ e) in
+        only (c .0) (c .2) (c .3) (ℕ-discrete (c .0) k)
+
+-- the word of row a that has b's bit, under a mask of that bit, is not 0
+abbrev pub masked : List ℕ → ℕ → ℕ → Bool
+masked w a b = not (eqb (bitAnd (getD w (2 * a + b / 64) 0) (hot (b % 64))) 0)
+
+-- THE MASK TEST IS THE ROW'S RELATION
+pub tells-has : (w : List ℕ) (a b : ℕ) → getD w (2 * a + b / 64) 0 < 2 ^ 64 → Tells (masked w a b) (Has w a b)
+unfolding at
+tells-has w a b fits = tells-mask (getD w (2 * a + b / 64) 0) (b % 64) fits (omega arith)
 
 module _ (w : List ℕ) (a b : ℕ) (long : 2 * a + 1 < length w) (hb : b < 128) where
   abbrev cell : ℕ

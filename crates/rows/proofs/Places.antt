@@ -1,15 +1,12 @@
 -- Where the bits of a row stand: in which word, and after the row's two words are stored.
 use mathlib.Core.Path.{_≡_, sym, ap, subst, _∙_}
-use mathlib.Core.Bool.{Bool, true, false}
 use mathlib.Core.List.{List}
 use Prim.Native.Nat.{ℕ, _+_, _-_, _*_, _/_, _%_, _≤_, _<_}
 use native.Mathlib.Omega.{arith}
 use native.Mathlib.Decide.{ℕ-discrete}
-use borrow.Author.Tests.{eqb-true, eqb-false}
-use lib.Dec.{eqb}
 use lib.ListN.{length, getD, set, length-set}
 use lib.Seq.{getD-set-same, getD-set-other}
-use Rattle.rows.specs.Inner.Rows.{Tells, bit, lowWord, highWord, withWords, at, Has}
+use Rattle.rows.specs.Inner.Rows.{bit, lowWord, highWord, withWords, at}
 
 -- a bit is 0 or 1
 pub at-le : (w : List ℕ) (a b : ℕ) → at w a b ≤ 1
@@ -38,12 +35,6 @@ at-high w a y h l =
     let e : 2 * a + y / 64 ≡ 2 * a + 1 = omega arith in
     let f : y % 64 ≡ y - 64 = omega arith in
     cc
-
--- what a test of a bit says
-pub tells-has : (w : List ℕ) (a b : ℕ) (r : Bool) → r ≡ eqb (bit (getD w (2 * a + b / 64) 0) (b % 64)) 1 → Tells r (Has w a b)
-unfolding at
-tells-has w a b true e = eqb-true _ _ (sym e)
-tells-has w a b false e = eqb-false _ _ (sym e)
 
 -- the two words of row a are stored
 module _ (w : List ℕ) (a lo hi : ℕ) (long : 2 * a + 1 < length w) where

@@ -27,7 +27,7 @@ pub fn has(w: &[u64], a: usize, b: usize) -> bool
     ensures { λ r. ⌜ Tells r (Has (now (w .entry)) a b) ⌝ }
 {
     let i = 2 * a + b / 64;
-    (w[i] >> (b % 64)) % 2 == 1
+    w[i] & (1u64 << (b % 64)) != 0
 }
 
 // Puts b into row a.

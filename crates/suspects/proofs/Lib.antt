@@ -1,3 +1,4 @@
+pub mod Reached
 pub mod Pairs
 pub mod OnChain
 pub mod LeadingBack

@@ -6,21 +6,29 @@ ghost use Rattle.listing.specs.Inner.Whole.{Whole};
 ghost use Rattle.order.specs.Walks.{Pair};
 ghost use Rattle.rows.specs.Inner.Rows.{Holds};
 ghost use Rattle.rows.specs.Inner.Touched.{Common};
-ghost use Rattle.suspects.specs.Inner.Suspect.{ClearOf, Exchanged, OnChain, Suspect, Ready};
+ghost use Rattle.suspects.specs.Inner.Suspect.{Reaches, ClearOf, Exchanged, OnChain, Suspect, Ready};
 use meetings::Pick;
 use meetings::gather;
 use rows::WORDS;
 
-// The pairs: who walks to whom, among accesses.
+// Who reaches whom.
+fn reach_rows(bytes: &[u8], w: &mut [u64; WORDS])
+    requires { ⌜ Whole (now bytes) ⌝ }
+    ensures { λ _. ⌜ Holds (now (w .exit)) (countN (now (bytes .entry))) (Reaches (nodesOf (now (bytes .entry)))) ⌝ }
+{
+    let mut every = [0u64; 2];
+    gather(0, bytes, Pick::Every, &mut every);
+    reach::walks(bytes, &every, w);
+}
+
+// The pairs: who reaches whom, among accesses.
 fn pair_rows(bytes: &[u8], p: &mut [u64; WORDS])
     requires { ⌜ Whole (now bytes) ⌝ }
     ensures { λ _. ⌜ Holds (now (p .exit)) (countN (now (bytes .entry))) (Pair (nodesOf (now (bytes .entry)))) ⌝ }
 {
-    let mut every = [0u64; 2];
     let mut accesses = [0u64; 2];
-    gather(0, bytes, Pick::Every, &mut every);
     gather(0, bytes, Pick::Access, &mut accesses);
-    reach::walks(bytes, &every, p);
+    reach_rows(bytes, p);
     reach::restrict(listing::node_count(bytes), &accesses, p);
 }
 

@@ -1,8 +1,7 @@
 -- `rows::has` meets its contract.
-use Rattle.rows.proofs.Places.{tells-has}
-use Rattle.rows.specs.Inner.Rows.{bit}
-use mathlib.Core.Path.{refl}
 use borrow.Author.Needs.{needs}
+use Prim.Native.Nat.{_+_, _*_, _/_}
+use Rattle.rows.proofs.OneBit.{tells-has}
 use Rattle.rows.proofs.has.Statement.{statement}
 use Rattle.rows.proofs.has.Tie as tie
 
@@ -18,12 +17,13 @@ mul-result c = search needs
 shared-slice-read-result : tie.Need-shared-slice-read-result
 shared-slice-read-result c = search needs
 
-shr-result : tie.Need-shr-result
-shr-result c = search needs
+shl-result : tie.Need-shl-result
+shl-result c = search needs
 
 returns : tie.Need-returns
-unfolding bit
-returns c = tells-has (c .before .args .w .now) (c .before .args .a) (c .before .args .b) _ refl
+returns c =
+    let a = c .before .args in
+    tells-has (a .w .now) (a .a) (a .b) (c .shared-slice-known .given (2 * a .a + a .b / 64) .fits)
 
 pub has-spec : {M : Type 1} → statement M
-has-spec = tie.close (tie.spec mul-i add-i mul-result shared-slice-read-result shr-result returns)
+has-spec = tie.close (tie.spec mul-i add-i mul-result shared-slice-read-result shl-result returns)

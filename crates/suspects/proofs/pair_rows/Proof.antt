@@ -9,11 +9,8 @@ use Rattle.suspects.proofs.pair_rows.Tie as tie
 gather-requires : tie.Need-gather-requires
 gather-requires c κs = search needs
 
-gather-requires-2 : tie.Need-gather-requires-2
-gather-requires-2 c κs = search needs
-
-walks-requires : tie.Need-walks-requires
-walks-requires c κs = search needs
+reach-rows-requires : tie.Need-reach-rows-requires
+reach-rows-requires c κs = search needs
 
 node-count-requires : tie.Need-node-count-requires
 node-count-requires c κs = search needs
@@ -21,25 +18,18 @@ node-count-requires c κs = search needs
 restrict-requires : tie.Need-restrict-requires
 restrict-requires c κs =
     let count = c .before .before in
-    (omega arith, low-at (count .node-count .ensures .0) (count .before .walks .ensures))
+    (omega arith, low-at (count .node-count .ensures .0) (count .before .reach-rows .ensures))
 
 returns : tie.Need-returns
 returns c =
     let count = c .before .before .before in
-    let walked = count .before in
-    let accesses = walked .before .before .before in
-    let every = accesses .before .before in
-    let start = every .before .before .before in
-    pairs-hold (counted (start .pre)) (every .gather .ensures) (walked .walks .ensures) (accesses .gather2 .ensures)
+    let reached = count .before in
+    let accesses = reached .before .before in
+    let start = accesses .before .before .before in
+    pairs-hold (counted (start .pre)) (reached .reach-rows .ensures) (accesses .gather .ensures)
     (rw (count .node-count .ensures .0) at (c .restrict .ensures))
 
 pub pair-rows-spec : {M : Type 1} → statement M
 pair-rows-spec =
     tie.close
-    (tie.spec
-    gather-requires
-    gather-requires-2
-    walks-requires
-    node-count-requires
-    restrict-requires
-    returns)
+    (tie.spec gather-requires reach-rows-requires node-count-requires restrict-requires returns)

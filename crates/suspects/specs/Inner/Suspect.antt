@@ -11,6 +11,10 @@ use Rattle.order.specs.Need.{RmwInside, question, classAt, bars}
 use Rattle.rows.specs.Inner.Rows.{Holds}
 use Rattle.meetings.specs.Inner.Meeting.{Meeting}
 
+-- some walk leads from a to b
+abbrev pub Reaches : Listing → ℕ → ℕ → Type 0
+Reaches L a b = (inside : List ℕ) × Walk L a inside b
+
 -- some walk from a to b has nothing inside that bars ends of class e
 abbrev pub ClearOf : ℕ → ℕ → Listing → ℕ → ℕ → Type 0
 ClearOf q e L a b = (inside : List ℕ) × Walk L a inside b × All (λ c. T (bars (question q) e (kindAt L c)) → ⊥) inside
