@@ -30,12 +30,12 @@ stateWords (opening a) = aroundWords a
 stateWords (inside x a) = aroundWords a ++ (Open ∷ beforeWords x)
 stateWords (located k x a) = aroundWords a ++ (Open ∷ (beforeWords x ++ (Access k ∷ [])))
 
-pub and-words : (x : SoFar) (i : Item) → beforeWords (and x i) ≡ beforeWords x ++ itemWords i
+and-words : (x : SoFar) (i : Item) → beforeWords (and x i) ≡ beforeWords x ++ itemWords i
 unfolding beforeWords blockWords
 and-words none i = refl
 and-words (some b) i = refl
 
-pub closed-words : (b : Block) (a : Outside) → stateWords (closed b a) ≡ aroundWords a ++ (Open ∷ (blockWords b ++ (Close ∷ [])))
+closed-words : (b : Block) (a : Outside) → stateWords (closed b a) ≡ aroundWords a ++ (Open ∷ (blockWords b ++ (Close ∷ [])))
 unfolding stateWords aroundWords itemWords
 closed-words b (ofPart t) = simp append-assoc
 closed-words b (ofLoop x a) = simp (and-words x (loop b), append-assoc)

@@ -3,10 +3,10 @@ pub mod Steps
 pub mod Leads
 pub mod Standing
 pub mod Places
+pub mod Kept
 pub mod Moves
 pub mod Items
 pub mod Blocks
 pub mod Parts
-pub mod Unique
 pub mod OneReading
 pub mod Examples

@@ -36,7 +36,7 @@ module _ (P : Token → Type 0) (c : ℕ) where
       go false e = g
 
   -- what holds of each word that a number can say holds of the word that it says
-  each : (v : ℕ) → (c ≡ routineCode → P Routine) → (c ≡ loopCode → P Loop) → (c ≡ eitherCode → P Either) → (c ≡ openCode → P Open)
+  pub each : (v : ℕ) → (c ≡ routineCode → P Routine) → (c ≡ loopCode → P Loop) → (c ≡ eitherCode → P Either) → (c ≡ openCode → P Open)
       → (c ≡ closeCode → P Close) → (c ≡ fenceCode → P Fence) → (c ≡ accessCode → P (Access v)) → (c ≡ numberCode → P (Number v))
       → P Other → P (tokenOf c v)
   unfolding tokenOf

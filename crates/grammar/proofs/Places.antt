@@ -6,12 +6,12 @@ use Prim.Native.Nat.{ℕ}
 use lib.ListN.{length}
 use Rattle.words.specs.Words.{Word, meaning, words}
 use Rattle.words.specs.Inner.Looking.{marks, unread}
-use Rattle.grammar.specs.Tree.{Text, nothing, wordsOf}
+use Rattle.grammar.specs.Tree.{Text, nothing}
 use Rattle.grammar.specs.Stands.{saying, Reads, Stands, BadAt, word, breaks, BadText, TreeOf}
 use Rattle.grammar.specs.Inner.Reader.{State, between, opening, inside, located, Move, stuck, to, move, Outcome, tree, bad, stop}
 use Rattle.grammar.specs.Inner.Reader.{onward, read, parse}
 use Rattle.grammar.proofs.Steps.{then, steps, after}
-use Rattle.grammar.proofs.Leads.{stateWords, leads, to-inj, not-stuck}
+use Rattle.grammar.proofs.Leads.{to-inj, not-stuck}
 use Rattle.grammar.proofs.Standing.{Led, saying-append, led-on, tree-reads, reads-tree, led-stands, stands-led}
 
 -- where reading on from a state ends
@@ -44,18 +44,6 @@ ending (w ∷ ws) s len = go (move s (meaning (w .bytes))) refl (λ u. ending ws
         → Ending s (w ∷ ws) len (onward m (w .place) (λ t. read len t (marks ws)))
     go stuck h f = stops [] ws w s refl refl h
     go (to u) h f = further s u w h ws len _ (f u)
-
--- a text that is read to a tree from a state on has that state's words before the rest
-pub from-state : (ws : List Word) (s : State) (len : ℕ) (t : Text) → read len s (marks ws) ≡ tree t → wordsOf t ≡ stateWords s ++ saying ws
-unfolding stateWords
-from-state ws s len t e = go _ (ending ws s len) e
-  where
-    go : (o : Outcome) → Ending s ws len o → o ≡ tree t → wordsOf t ≡ stateWords s ++ saying ws
-    go o (whole u q) h =
-        let v : t ≡ u = cc in
-        subst (λ (z : Text). wordsOf z ≡ stateWords s ++ saying ws) (sym v) (leads s (between u) (saying ws) q .words)
-    go o (stops before later w u f g k) h = absurd (true≢false cc)
-    go o (short u f g) h = absurd (true≢false cc)
 
 -- ── What is found is right ──────────────────────────────────────────────────
 unfoldable Means : List Word → ℕ → Outcome → Type 0

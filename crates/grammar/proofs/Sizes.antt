@@ -1,9 +1,8 @@
--- How many nodes items, blocks and parts have: none is without a node.
+-- How many nodes items and blocks have: none is without a node.
 use mathlib.Core.Path.{_≡_, refl}
 use Prim.Native.Nat.{_+_, _≤_}
 use native.Mathlib.Omega.{arith}
-use Rattle.grammar.specs.Tree.{Item, access, fence, loop, either, Block, one, also, Text, nothing, part, itemSize, blockSize, partsOf}
-use Rattle.grammar.specs.Tree.{sizeOf}
+use Rattle.grammar.specs.Tree.{Item, access, fence, loop, either, Block, one, also, itemSize, blockSize}
 use Rattle.grammar.specs.Inner.Reader.{SoFar, none, some, and, beforeSize}
 
 -- one item more
@@ -12,6 +11,7 @@ unfolding blockSize
 and-size none i = omega arith
 and-size (some b) i = refl
 
+-- NO ITEM AND NO BLOCK IS WITHOUT A NODE
 mutual
   unfolding itemSize blockSize
 
@@ -24,8 +24,3 @@ mutual
   pub block-some : (b : Block) → 1 ≤ blockSize b
   block-some (one i) = item-some i
   block-some (also b i) = let h : 1 ≤ blockSize b = block-some b in omega arith
-
--- NO PART IS WITHOUT A NODE
-pub parts-few : (t : Text) → partsOf t ≤ sizeOf t
-parts-few nothing = omega arith
-parts-few (part t b) = let h = parts-few t in let l : 1 ≤ blockSize b = block-some b in omega arith

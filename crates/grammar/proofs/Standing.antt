@@ -32,7 +32,7 @@ tree-reads ws t e = let r = leads (between nothing) (between t) (saying ws) e in
 pub reads-tree : (ws : List Word) (t : Text) → Reads ws t → Led ws (between t)
 reads-tree ws t r = subst (λ (l : List Token). steps (between nothing) l ≡ to (between t)) (r .words) (text-steps t (r .within))
 
-pub between-inj : {t u : Text} → between t ≡ between u → t ≡ u
+between-inj : {t u : Text} → between t ≡ between u → t ≡ u
 between-inj e = cc
 
 -- no row of words has two readings

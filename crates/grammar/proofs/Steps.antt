@@ -47,7 +47,7 @@ pub lower : (a b : Outside) (d : ℕ) → Levels a d → 0 < d → enter (deep a
 lower a b d h z = rw (lt-ltb (deep a) DEPTH (omega arith))
 
 -- a block between braces, where its items are read
-pub braced : (a : Outside) (b : Block) (ks : List Token) → steps (inside none a) (blockWords b) ≡ to (inside (adds none b) a)
+braced : (a : Outside) (b : Block) (ks : List Token) → steps (inside none a) (blockWords b) ≡ to (inside (adds none b) a)
     → steps (opening a) (Open ∷ (blockWords b ++ (Close ∷ ks))) ≡ steps (closed b a) ks
 braced a b ks e =
     after (inside none a) (inside (some b) a) (blockWords b) (Close ∷ ks) (e ∙ ap (λ (x : SoFar). to (inside x a)) (adds-none b))
@@ -72,7 +72,7 @@ mutual
       (braced (ofFirst x a) b (Open ∷ (blockWords c ++ (Close ∷ []))) (block-steps b none (ofFirst x a) (d - 1) l (w .1))
       ∙ braced (ofSecond x b a) c [] (block-steps c none (ofSecond x b a) (d - 1) l (w .2)))
 
-  pub block-steps : (b : Block) (x : SoFar) (a : Outside) (d : ℕ) → Levels a d → BlockWithin b d
+  block-steps : (b : Block) (x : SoFar) (a : Outside) (d : ℕ) → Levels a d → BlockWithin b d
       → steps (inside x a) (blockWords b) ≡ to (inside (adds x b) a)
   block-steps (one i) x a d h w = item-steps i x a d h w
   block-steps (also b i) x a d h w =

@@ -3,11 +3,9 @@ use mathlib.Core.Path.{_≡_, refl}
 use Prim.Native.Nat.{ℕ, _+_}
 use native.Mathlib.Omega.{arith}
 use lib.ListN.{length, length-append}
-use Rattle.listing.specs.Node.{none as nowhere}
+use Rattle.listing.specs.Node.{none}
 use Rattle.grammar.specs.Tree.{Item, access, fence, loop, either, Block, one, also, Text, nothing, part}
 use Rattle.grammar.specs.Tree.{partsOf, sizeOf, nodesOf, itemSize, blockSize, itemNodes, blockNodes}
-use Rattle.grammar.specs.Inner.Reader.{SoFar, none, some, beforeSize}
-use Rattle.text.specs.Inner.Writer.{beforeNodes}
 
 mutual
   unfolding itemNodes blockNodes itemSize blockSize
@@ -28,15 +26,10 @@ mutual
       let f = item-count i r (n + blockSize b) next in
       simp length-append (omega arith)
 
--- the items of a block so far
-pub before-count : (x : SoFar) (r n next : ℕ) → length (beforeNodes x r n next) ≡ beforeSize x
-before-count none r n next = refl
-before-count (some b) r n next = block-count b r n next
-
 -- A TEXT HAS AS MANY NODES AS ITS SIZE SAYS
 pub text-count : (t : Text) → length (nodesOf t) ≡ sizeOf t
 text-count nothing = refl
 text-count (part t b) =
     let e = text-count t in
-    let f = block-count b (partsOf t) (sizeOf t) nowhere in
+    let f = block-count b (partsOf t) (sizeOf t) none in
     simp length-append (omega arith)

@@ -1,9 +1,14 @@
 pub mod Counts
 pub mod Records
-pub mod Good
-pub mod Items
+pub mod BlockPast
+pub mod Exits
+pub mod Run
+pub mod Looks
+pub mod Passes
+pub mod Wrote
 pub mod Blocks
-pub mod Parts
+pub mod Writing
+pub mod Made
 pub mod Service
 pub mod Promise
 pub mod Every

@@ -1,4 +1,4 @@
 pub mod Records
-pub mod Good
+pub mod Pen
 pub mod Writer
 pub mod Decided

@@ -1,75 +1,104 @@
-// What a good text has at a place is passed before it is written: where a node leads is known once what lies between is counted.
+// What lies ahead in a text is looked at before a node is written: where it leads is known once what lies between is counted.
 ghost use mathlib.Core.Path.{_≡_};
 ghost use Prim.Native.Nat.{_≤_};
-ghost use Rattle.words.specs.Inner.Looking.{eitherCode};
-ghost use Rattle.grammar.specs.Inner.Reader.{ItemRead, BlockRead};
-ghost use Rattle.grammar.specs.declared.Step.the-variants.{At};
-ghost use Rattle.text.specs.Inner.Good.{GoodItem, GoodBlock, Halved};
-use grammar::Step;
-use grammar::block;
-use grammar::item;
-use words::Found;
+ghost use lib.ListN.{length};
+ghost use Rattle.words.specs.Inner.Looking.{tokenOf};
+ghost use Rattle.grammar.specs.Inner.Reader.{endOf, passedOf};
+ghost use Rattle.text.specs.Inner.Pen.{Makes, PastBlock, exitOf, inside, follows, locationOf, tokens};
+use crate::nodes::NOWHERE;
+use grammar::look;
+use grammar::pass;
+use words::ACCESS;
+use words::CLOSE;
+use words::FENCE;
+use words::NOTHING;
+use words::NUMBER;
+use words::OPEN;
 
-// What was passed in a good text: where it ends, and how many nodes it has.
-pub struct Passed {
-    pub end: usize,
-    pub nodes: usize,
+// How many nodes a word counts for. A loop has one brace that opens, and an either two: each counts for one of its own nodes.
+fn makes(code: u8) -> usize
+    ensures { λ r. ⌜ Makes code r ⌝ }
+{
+    if code == ACCESS {
+        return 1;
+    }
+    if code == FENCE {
+        return 1;
+    }
+    if code == OPEN {
+        return 1;
+    }
+    0
 }
 
-// Past the item whose first word is w.
-pub fn past_item(s: &[u8], w: Found, depth: usize) -> Passed
-    requires { ⌜ GoodItem (now s) w depth ⌝ }
-    ensures { λ r. ⌜ ItemRead (now (s .entry)) w depth (At (r .end) (r .nodes)) ⌝ }
+// Past the block whose `{` is next: its nodes and one more are passed.
+pub fn past_block(s: &[u8], at: &mut [usize; 4])
+    requires { ⌜ (endOf (now at) ≤ length (now s)) × (passedOf (now at) ≤ endOf (now at)) ⌝ }
+    ensures { λ _. ⌜ PastBlock (now (s .entry)) (now (at .entry)) (now (at .exit)) ⌝ }
 {
-    let step = item(s, w, depth);
-    match step {
-        Step::At(end, nodes) => Passed { end, nodes },
-        // not in a good text
-        Step::Bad(place) => Passed {
-            end: place,
-            nodes: 0,
-        },
+    let mut opened: usize = 0;
+    loop {
+        let code = look(s, at);
+        if code == NOTHING {
+            // not in a good text
+            return;
+        }
+        if code == CLOSE {
+            if opened <= 1 {
+                return;
+            }
+            opened -= 1;
+        } else {
+            let nodes = makes(code);
+            pass(at, nodes);
+            if code == OPEN {
+                opened += 1;
+            }
+        }
     }
 }
 
-// Past the block whose `{` is next.
-pub fn past_block(s: &[u8], at: usize, depth: usize) -> Passed
-    requires { ⌜ GoodBlock (now s) at depth ⌝ }
-    ensures { λ r. ⌜ BlockRead (now (s .entry)) at depth (At (r .end) (r .nodes)) ⌝ }
+// Where the end of the innermost open block leads: its node's number and one more are the exits' last eight bits.
+pub fn exit(exits: usize) -> usize
+    ensures { λ r. ⌜ r ≡ exitOf exits ⌝ }
 {
-    let step = block(s, at, depth);
-    match step {
-        Step::At(end, nodes) => Passed { end, nodes },
-        // not in a good text
-        Step::Bad(place) => Passed {
-            end: place,
-            nodes: 0,
-        },
+    let next = exits % 256;
+    if next == 0 {
+        return NOWHERE;
     }
+    next - 1
 }
 
-// An either's halves: where its second block starts in the text, that block's first node, and the node in which both meet.
-pub struct Halves {
-    pub second: usize,
-    pub other: usize,
-    pub meet: usize,
+// The exits with a block more, whose end leads to node `next` - 1.
+pub fn within(exits: usize, next: usize) -> usize
+    ensures { λ r. ⌜ r ≡ inside exits next ⌝ }
+{
+    if exits < 72057594037927936 {
+        return 256 * exits + next % 256;
+    }
+    // not in a good text
+    exits
 }
 
-// The halves of the either whose first word is w, and whose first node is n.
-pub fn past_either(s: &[u8], w: Found, depth: usize, n: usize) -> Halves
-    requires { ⌜ GoodItem (now s) w depth × (w .code ≡ eitherCode) × (n ≤ w .start) ⌝ }
-    ensures { λ r. ⌜ Halved (now (s .entry)) w depth n r ⌝ }
+// Where an item leads whose last word ends at `end`: to the next item, node `number`, or as its block's end does.
+pub fn follow(s: &[u8], end: usize, exits: usize, number: usize) -> usize
+    requires { ⌜ end ≤ length (now s) ⌝ }
+    ensures { λ r. ⌜ r ≡ follows exits number (tokens (now (s .entry)) end) ⌝ }
 {
-    let after = w.end;
-    let inside = depth - 1;
-    let one = past_block(s, after, inside);
-    let second = one.end;
-    let two = past_block(s, second, inside);
-    let other = n + 1 + one.nodes;
-    let meet = other + two.nodes;
-    Halves {
-        second,
-        other,
-        meet,
+    let mut at: [usize; 4] = [0, end, 0, 0];
+    let code = look(s, &mut at);
+    if code == CLOSE {
+        return exit(exits);
     }
+    number
+}
+
+// The location that a word of this code says, if it says one.
+pub fn location(code: u8, said: usize) -> usize
+    ensures { λ r. ⌜ r ≡ locationOf (tokenOf code said) ⌝ }
+{
+    if code == NUMBER {
+        return said;
+    }
+    0
 }

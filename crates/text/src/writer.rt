@@ -1,112 +1,176 @@
-// The block writer and the item writer call each other, as the readers do: the nodes of a good text, in text order.
-ghost use mathlib.Core.Path.{_≡_};
-ghost use Prim.Native.Nat.{ℕ, _≤_};
-ghost use Rattle.words.specs.Inner.Looking.{accessCode};
-ghost use Rattle.text.specs.Inner.Good.{GoodItem, GoodBlock, GoodText};
-ghost use Rattle.text.specs.Inner.Writer.{ItemWritten, BlockWritten, TextWritten};
-use crate::nodes::NOWHERE;
+// The nodes of a good text, in text order, word by word: the exits of the open blocks are one number, eight bits a level.
+ghost use Rattle.words.specs.Words.{Loop, Either, Close, Fence, Access};
+ghost use Rattle.words.specs.Inner.Looking.{tokenOf};
+ghost use Rattle.text.specs.Inner.Pen.{tokens};
+ghost use Rattle.text.specs.Inner.Writer.{WordAt, WordWritten, TextWritten};
 use crate::nodes::low;
 use crate::nodes::put_plain;
 use crate::nodes::put_single;
+use crate::passing::follow;
+use crate::passing::location;
 use crate::passing::past_block;
-use crate::passing::past_either;
-use crate::passing::past_item;
-use grammar::DEPTH;
+use crate::passing::within;
+use grammar::look;
 use listing::PLAIN;
 use words::ACCESS;
 use words::CLOSE;
+use words::EITHER;
 use words::FENCE;
-use words::Found;
 use words::LOOP;
 use words::NOTHING;
-use words::next;
 
-// The access whose first word is w: that word says its kind, and the next its location.
-fn write_access(s: &[u8], w: Found, routine: u8, n: usize, to: usize, out: &mut [u8])
-    requires { ⌜ ((d : ℕ) × GoodItem (now s) w d × (w .code ≡ accessCode)) ⌝ }
-    ensures { λ _. ⌜ ((d : ℕ) → ItemWritten (now (s .entry)) w d routine n to (now (out .entry)) (now (out .exit))) ⌝ }
-{
-    let kind = low(w.value);
-    let after = w.end;
-    let l = next(s, after);
-    put_single(&mut *out, n, routine, kind, l.value, to);
+// How many parts are written, the next node's number, and the exits of the open loops and eithers.
+pub struct Pen {
+    pub parts: usize,
+    pub number: usize,
+    pub exits: usize,
 }
 
-// The item whose first word is w: its nodes from n on, its end leads to `to`.
-fn write_item(s: &[u8], w: Found, depth: usize, routine: u8, n: usize, to: usize, out: &mut [u8])
-    requires { ⌜ GoodItem (now s) w depth × (n ≤ w .start) ⌝ }
-    ensures { λ _. ⌜ ItemWritten (now (s .entry)) w depth routine n to (now (out .entry)) (now (out .exit)) ⌝ }
+// An access of this kind: the next word says its location.
+fn write_access(s: &[u8], kind: usize, end: usize, p: Pen, out: &mut [u8]) -> Pen
+    requires { ⌜ WordAt (now s) end p ⌝ }
+    ensures { λ r. ⌜ WordWritten (now (out .entry)) (now (out .exit)) p r (Access kind) (tokens (now (s .entry)) end) ⌝ }
 {
-    let code = w.code;
+    let mut at: [usize; 4] = [0, end, 0, 0];
+    let code = look(s, &mut at);
+    let place = location(code, at[3]);
+    let to = at[1];
+    let next = p.number + 1;
+    let leads = follow(s, to, p.exits, next);
+    put_single(&mut *out, p.number, low(p.parts), low(kind), place, leads);
+    Pen {
+        parts: p.parts,
+        number: next,
+        exits: p.exits,
+    }
+}
+
+fn write_fence(s: &[u8], end: usize, p: Pen, out: &mut [u8]) -> Pen
+    requires { ⌜ WordAt (now s) end p ⌝ }
+    ensures { λ r. ⌜ WordWritten (now (out .entry)) (now (out .exit)) p r Fence (tokens (now (s .entry)) end) ⌝ }
+{
+    let next = p.number + 1;
+    let leads = follow(s, end, p.exits, next);
+    put_single(&mut *out, p.number, low(p.parts), listing::FENCE, 0, leads);
+    Pen {
+        parts: p.parts,
+        number: next,
+        exits: p.exits,
+    }
+}
+
+// A loop's plain node, whose body's end leads back to it.
+fn write_loop(s: &[u8], end: usize, p: Pen, out: &mut [u8]) -> Pen
+    requires { ⌜ WordAt (now s) end p ⌝ }
+    ensures { λ r. ⌜ WordWritten (now (out .entry)) (now (out .exit)) p r Loop (tokens (now (s .entry)) end) ⌝ }
+{
+    let mut at: [usize; 4] = [0, end, p.number, 0];
+    past_block(s, &mut at);
+    let to = at[1];
+    let leads = follow(s, to, p.exits, at[2]);
+    let body = p.number + 1;
+    put_plain(&mut *out, p.number, low(p.parts), body, leads);
+    Pen {
+        parts: p.parts,
+        number: body,
+        exits: within(p.exits, body),
+    }
+}
+
+// An either's plain node; both blocks' ends lead to the node after them, in which they meet.
+fn write_either(s: &[u8], end: usize, p: Pen, out: &mut [u8]) -> Pen
+    requires { ⌜ WordAt (now s) end p ⌝ }
+    ensures { λ r. ⌜ WordWritten (now (out .entry)) (now (out .exit)) p r Either (tokens (now (s .entry)) end) ⌝ }
+{
+    let mut at: [usize; 4] = [0, end, p.number, 0];
+    past_block(s, &mut at);
+    let other = at[2];
+    past_block(s, &mut at);
+    let meet = at[2];
+    let body = p.number + 1;
+    put_plain(&mut *out, p.number, low(p.parts), body, other);
+    Pen {
+        parts: p.parts,
+        number: body,
+        exits: within(p.exits, meet),
+    }
+}
+
+// The end of a part, of an either's second block, whose ends meet here, of a loop's body, or of an either's first block.
+fn write_close(s: &[u8], end: usize, p: Pen, out: &mut [u8]) -> Pen
+    requires { ⌜ WordAt (now s) end p ⌝ }
+    ensures { λ r. ⌜ WordWritten (now (out .entry)) (now (out .exit)) p r Close (tokens (now (s .entry)) end) ⌝ }
+{
+    let next = p.number + 1;
+    if p.exits == 0 {
+        let parts = p.parts + 1;
+        return Pen {
+            parts,
+            number: p.number,
+            exits: 0,
+        };
+    }
+    let top = p.exits % 256;
+    let outer = p.exits / 256;
+    if top == next {
+        let leads = follow(s, end, outer, next);
+        put_single(&mut *out, p.number, low(p.parts), PLAIN, 0, leads);
+        return Pen {
+            parts: p.parts,
+            number: next,
+            exits: outer,
+        };
+    }
+    if top < next {
+        return Pen {
+            parts: p.parts,
+            number: p.number,
+            exits: outer,
+        };
+    }
+    p
+}
+
+// The word of this code that ends at `end`, and the number that it says.
+fn write_word(s: &[u8], code: u8, said: usize, end: usize, p: Pen, out: &mut [u8]) -> Pen
+    requires { ⌜ WordAt (now s) end p ⌝ }
+    ensures { λ r. ⌜ WordWritten (now (out .entry)) (now (out .exit)) p r (tokenOf code said) (tokens (now (s .entry)) end) ⌝ }
+{
     if code == ACCESS {
-        write_access(s, w, routine, n, to, &mut *out);
-        return;
+        return write_access(s, said, end, p, &mut *out);
     }
     if code == FENCE {
-        put_single(&mut *out, n, routine, listing::FENCE, 0, to);
-        return;
+        return write_fence(s, end, p, &mut *out);
     }
-    let after = w.end;
-    let inside = depth - 1;
-    let body = n + 1;
     if code == LOOP {
-        put_plain(&mut *out, n, routine, body, to);
-        write_block(s, after, inside, routine, body, n, &mut *out);
-        return;
+        return write_loop(s, end, p, &mut *out);
     }
-    let h = past_either(s, w, depth, n);
-    let second = h.second;
-    let other = h.other;
-    let meet = h.meet;
-    put_plain(&mut *out, n, routine, body, other);
-    write_block(s, after, inside, routine, body, meet, &mut *out);
-    write_block(s, second, inside, routine, other, meet, &mut *out);
-    put_single(&mut *out, meet, routine, PLAIN, 0, to);
+    if code == EITHER {
+        return write_either(s, end, p, &mut *out);
+    }
+    if code == CLOSE {
+        return write_close(s, end, p, &mut *out);
+    }
+    p
 }
 
-// The block whose `{` is next: its nodes from n on, its end leads to `to`.
-fn write_block(s: &[u8], at: usize, depth: usize, routine: u8, n: usize, to: usize, out: &mut [u8])
-    requires { ⌜ GoodBlock (now s) at depth × (n ≤ at) ⌝ }
-    ensures { λ _. ⌜ BlockWritten (now (s .entry)) at depth routine n to (now (out .entry)) (now (out .exit)) ⌝ }
-{
-    let open = next(s, at);
-    let start = open.end;
-    let mut w = next(s, start);
-    let mut number = n;
-    loop {
-        let i = past_item(s, w, depth);
-        let end = i.end;
-        let v = next(s, end);
-        if v.code == CLOSE {
-            write_item(s, w, depth, routine, number, to, &mut *out);
-            return;
-        }
-        let follows = number + i.nodes;
-        write_item(s, w, depth, routine, number, follows, &mut *out);
-        w = v;
-        number = follows;
-    }
-}
-
-// All parts of a good text: part p is routine p, and its end leads nowhere.
+// All words: part p is routine p, and its end leads nowhere.
 pub fn write_text(s: &[u8], out: &mut [u8])
-    requires { ⌜ GoodText (now s) ⌝ }
     ensures { λ _. ⌜ TextWritten (now (s .entry)) (now (out .entry)) (now (out .exit)) ⌝ }
 {
-    let mut here: usize = 0;
-    let mut parts: usize = 0;
-    let mut nodes: usize = 0;
+    let mut at: [usize; 4] = [0, 0, 0, 0];
+    let mut p = Pen {
+        parts: 0,
+        number: 0,
+        exits: 0,
+    };
     loop {
-        let w = next(s, here);
-        if w.code == NOTHING {
+        let code = look(s, &mut at);
+        if code == NOTHING {
             return;
         }
-        let at = w.end;
-        let b = past_block(s, at, DEPTH);
-        let routine = low(parts);
-        write_block(s, at, DEPTH, routine, nodes, NOWHERE, &mut *out);
-        here = b.end;
-        parts += 1;
-        nodes += b.nodes;
+        let end = at[1];
+        let said = at[3];
+        p = write_word(s, code, said, end, p, &mut *out);
     }
 }

@@ -79,7 +79,7 @@ none-found s at r passed h =
     record {
       same = passed .same ∙ no-word s r h;
       later = passed .later;
-      found = record { within = within; some = λ z. absurd (z refl); none = λ _. omega arith; kind = λ z. omega arith; small = λ z. omega arith };
+      found = record { ordered = omega arith; within = within; some = λ z. absurd (z refl); none = λ _. omega arith; kind = λ z. omega arith; small = λ z. omega arith };
     }
 
 -- THE WORD THAT BEGINS THERE
@@ -92,6 +92,7 @@ one-found s at a e w passed h ends told =
       same = passed .same ∙ found s a e ends some ∙ rw (ne-eqb _ _ (told .some), told .token);
       later = passed .later;
       found = record {
+        ordered = omega arith;
         within = ends .within;
         some = λ _. some;
         none = λ z. absurd (told .some z);

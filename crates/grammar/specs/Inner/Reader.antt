@@ -1,12 +1,12 @@
 -- The executable grammar, in which each word leads from a state to the next or can't stand, and what the readers say of it.
 use mathlib.Core.Path.{_≡_}
-use mathlib.Core.Bool.{cond}
+use mathlib.Core.Bool.{Bool, true, false, cond}
 use mathlib.Core.List.{List, [], _∷_}
-use Prim.Native.Nat.{ℕ, suc, _+_, _≤_}
-use lib.ListN.{length}
+use Prim.Native.Nat.{ℕ, suc, _+_, _<_, _≤_}
+use lib.ListN.{length, getD}
 use lib.Dec.{ltb}
 use Rattle.words.specs.Words.{Token, Routine, Loop, Either, Open, Close, Fence, Access, Number, Other}
-use Rattle.words.specs.Inner.Looking.{Mark, closeCode, unread, ahead, Place}
+use Rattle.words.specs.Inner.Looking.{Mark, closeCode, unread, ahead, Place, Ahead}
 use Rattle.words.specs.declared.Found.{Found}
 use Rattle.grammar.specs.Tree.{Item, access, fence, loop, either, Block, one, also, Text, nothing, part, DEPTH, itemSize, blockSize}
 use Rattle.grammar.specs.Tree.{ItemWithin, BlockWithin, partsOf, sizeOf}
@@ -151,10 +151,45 @@ parse s = from s (between nothing) 0
 abbrev pub Levels : Outside → ℕ → Type 0
 Levels a depth = deep a + depth ≡ DEPTH
 
--- the first word of an item was found, or no word is left
-pub record ItemAhead (s : List ℕ) (w : Found) : Type 0 where
-  pub found : Place s w
-  pub going : w .code ≡ closeCode → ⊥
+-- the numbers that the readers keep: where the word looked at last starts and ends, how many nodes were passed, and the number that the
+-- word says
+abbrev pub startOf : List ℕ → ℕ
+startOf at = getD at 0 0
+
+abbrev pub endOf : List ℕ → ℕ
+endOf at = getD at 1 0
+
+abbrev pub passedOf : List ℕ → ℕ
+passedOf at = getD at 2 0
+
+abbrev pub saidOf : List ℕ → ℕ
+saidOf at = getD at 3 0
+
+-- the word looked at last, of code c
+abbrev pub wordOf : ℕ → List ℕ → Found
+wordOf c at = record { code = c; value = saidOf at; start = startOf at; end = endOf at }
+
+-- looking at the next word finds the code c
+pub record Looked (s old new : List ℕ) (c : ℕ) : Type 0 where
+  pub ahead : Ahead s (endOf old) (wordOf c new)
+  pub passed : passedOf new ≡ passedOf old
+
+-- so many nodes more are passed, and no word is looked at
+pub record Passed (old : List ℕ) (n : ℕ) (new : List ℕ) : Type 0 where
+  pub start : startOf new ≡ startOf old
+  pub end : endOf new ≡ endOf old
+  pub passed : passedOf new ≡ passedOf old + n
+
+-- the first word of an item was looked at, or no word is left; the nodes passed so far are fewer than the bytes before it
+pub record ItemAhead (s : List ℕ) (c : ℕ) (at : List ℕ) : Type 0 where
+  pub found : Place s (wordOf c at)
+  pub going : c ≡ closeCode → ⊥
+  pub passed : passedOf at < startOf at
+
+-- a block is next, and the nodes passed so far are no more than the bytes before it
+pub record BlockAhead (s at : List ℕ) : Type 0 where
+  pub within : endOf at ≤ length s
+  pub passed : passedOf at ≤ endOf at
 
 -- one item stands between the word w and place e, with `depth` levels left: it leads every block that it can stand in from the one to
 -- the other
@@ -167,19 +202,27 @@ pub record BlockSpan (s : List ℕ) (at depth : ℕ) (b : Block) (e : ℕ) : Typ
   pub within : BlockWithin b depth
   pub same : (a : Outside) → Levels a depth → from s (opening a) at ≡ from s (closed b a) e
 
--- what the item reader says of the item whose first word was found: it reads one item, of n nodes, up to e; or the word at p can't stand
-abbrev pub ItemRead : List ℕ → Found → ℕ → Step → Type 0
-ItemRead s w depth (At e n) =
-    (i : Item) × (itemSize i ≡ n) × (w .start + n ≤ e) × (w .end ≤ e) × (e ≤ length s) × (1 ≤ n) × ItemSpan s w depth i e
-ItemRead s w depth (Bad p) =
-    (x : SoFar) (a : Outside) → Levels a depth → fromWord s (inside x a) w ≡ bad p
+-- what the item reader says of the item whose first word was looked at: it is read, or the word looked at last can't stand
+abbrev pub ItemRead : List ℕ → ℕ → ℕ → List ℕ → List ℕ → Bool → Type 0
+ItemRead s c depth old new true =
+    (i : Item)
+    × (passedOf new ≡ passedOf old + itemSize i)
+    × (startOf old + itemSize i ≤ endOf new)
+    × (endOf new ≤ length s)
+    × ItemSpan s (wordOf c old) depth i (endOf new)
+ItemRead s c depth old new false =
+    (x : SoFar) (a : Outside) → Levels a depth → fromWord s (inside x a) (wordOf c old) ≡ bad (startOf new)
 
 -- what the block reader says of the block whose `{` is next
-abbrev pub BlockRead : List ℕ → ℕ → ℕ → Step → Type 0
-BlockRead s at depth (At e n) =
-    (b : Block) × (blockSize b ≡ n) × (at + n + 2 ≤ e) × (e ≤ length s) × BlockSpan s at depth b e
-BlockRead s at depth (Bad p) =
-    (a : Outside) → Levels a depth → from s (opening a) at ≡ bad p
+abbrev pub BlockRead : List ℕ → ℕ → List ℕ → List ℕ → Bool → Type 0
+BlockRead s depth old new true =
+    (b : Block)
+    × (passedOf new ≡ passedOf old + blockSize b)
+    × (endOf old + blockSize b + 2 ≤ endOf new)
+    × (endOf new ≤ length s)
+    × BlockSpan s (endOf old) depth b (endOf new)
+BlockRead s depth old new false =
+    (a : Outside) → Levels a depth → from s (opening a) (endOf old) ≡ bad (startOf new)
 
 abbrev pub beforeSize : SoFar → ℕ
 beforeSize none = 0
@@ -189,26 +232,26 @@ abbrev pub BeforeWithin : SoFar → ℕ → Type 0
 BeforeWithin none d = Unit
 BeforeWithin (some b) d = BlockWithin b d
 
--- in the block whose `{` was next at `at`, the items of `size` nodes are read up to `here`
-pub record BlockGoes (s : List ℕ) (at depth here size : ℕ) : Type 0 where
+-- in the block whose `{` was next at `old`, some items are read, and the word after them was looked at and has the code c
+pub record BlockGoes (s : List ℕ) (depth : ℕ) (old at : List ℕ) (c : ℕ) : Type 0 where
   pub items : SoFar
-  pub nodes : beforeSize items ≡ size
+  pub nodes : passedOf at ≡ passedOf old + beforeSize items
   pub deep-so : BeforeWithin items depth
-  pub passed : at + 1 + size ≤ here
-  pub within : here ≤ length s
-  pub same : (a : Outside) → Levels a depth → from s (opening a) at ≡ from s (inside items a) here
+  pub later : endOf old + 1 + beforeSize items ≤ startOf at
+  pub within : endOf old < length s
+  pub found : Place s (wordOf c at)
+  pub same : (a : Outside) → Levels a depth → from s (opening a) (endOf old) ≡ fromWord s (inside items a) (wordOf c at)
 
 -- what the reader says of a text: how many parts and nodes its tree has, or where it is bad
 abbrev pub TextRead : List ℕ → Step → Type 0
 TextRead s (At f n) = (t : Text) × (partsOf t ≡ f) × (sizeOf t ≡ n) × (parse s ≡ tree t)
 TextRead s (Bad p) = parse s ≡ bad p
 
--- `parts` parts, of `nodes` nodes, are read up to `here`
-pub record TextGoes (s : List ℕ) (here f n : ℕ) : Type 0 where
+-- f parts are read, of as many nodes as were passed
+pub record TextGoes (s at : List ℕ) (f : ℕ) : Type 0 where
   pub text : Text
   pub parted : partsOf text ≡ f
-  pub nodes : sizeOf text ≡ n
-  pub few : f ≤ here
-  pub less : n ≤ here
-  pub within : here ≤ length s
-  pub same : parse s ≡ from s (between text) here
+  pub nodes : sizeOf text ≡ passedOf at
+  pub few : f ≤ endOf at
+  pub ahead : BlockAhead s at
+  pub same : parse s ≡ from s (between text) (endOf at)

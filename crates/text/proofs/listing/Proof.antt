@@ -6,7 +6,7 @@ use native.Mathlib.Omega.{arith}
 use Rattle.listing.specs.Limits.{NODES}
 use Rattle.grammar.specs.Inner.Reader.{TextRead}
 use Rattle.grammar.specs.declared.Step.the-variants.{At}
-use Rattle.text.proofs.Service.{bad-typed, refused-typed, good-text, full-typed}
+use Rattle.text.proofs.Service.{bad-typed, refused-typed, full-typed}
 use Rattle.text.proofs.listing.Statement.{statement}
 use Rattle.text.proofs.listing.Tie as tie
 
@@ -64,7 +64,7 @@ put-heading-requires c κs =
     omega arith
 
 write-text-requires : tie.Need-write-text-requires
-write-text-requires c κs = let heading = c .before .before .before in good-text (has-tree (tree-read (passed (heading .before))))
+write-text-requires c κs = search needs
 
 returns-2 : tie.Need-returns-2
 returns-2 c = bad-typed (subst (TextRead _) (c .before .read .given .1) (c .before .before .before .whole .ensures))

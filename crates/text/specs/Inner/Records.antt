@@ -9,6 +9,13 @@ use Rattle.listing.specs.Node.{Node, none, Listing}
 use Rattle.listing.specs.Bytes.{recordAt, nodesBytes}
 use Rattle.grammar.specs.Tree.{made}
 
+-- each number of a node but its location is a byte
+pub record Low (m : Node) : Type 0 where
+  pub routine : m .routine < 256
+  pub kind : m .kind < 256
+  pub first : m .first < 256
+  pub second : m .second < 256
+
 -- a buffer has room for k nodes
 pub record Room (k : ℕ) (out : List ℕ) : Type 0 where
   pub few : k ≤ NODES

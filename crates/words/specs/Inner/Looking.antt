@@ -74,6 +74,7 @@ ahead s w = cond (eqb (w .code) nothingCode) [] (mark (w .start) (tokenOf (w .co
 
 -- what is known of a word that was found, or of the text's end
 pub record Place (s : List ℕ) (w : Found) : Type 0 where
+  pub ordered : w .start ≤ w .end
   pub within : w .end ≤ length s
   pub some : (w .code ≡ nothingCode → ⊥) → w .start < w .end
   pub none : w .code ≡ nothingCode → w .start ≡ length s
