@@ -21,10 +21,10 @@
 #include <stddef.h>
 #include <stdint.h>
 
-#define NYEKUSHIRO_VERSION "1.2.0"
+#define NYEKUSHIRO_VERSION "1.2.1"
 #define NYEKUSHIRO_VERSION_MAJOR 1
 #define NYEKUSHIRO_VERSION_MINOR 2
-#define NYEKUSHIRO_VERSION_PATCH 0
+#define NYEKUSHIRO_VERSION_PATCH 1
 
 #ifdef __cplusplus
 extern "C" {

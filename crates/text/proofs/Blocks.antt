@@ -19,13 +19,13 @@ module _ {old new : List ℕ} (p : Pen) {ws : List Token} {r k : ℕ} (low-r : p
       → k ≡ inside (p .exits) (p .number + 1) → PutNode old new (p .number) (p .number + 1) to (plain r (p .number + 1) to)
       → WordWritten old new p (pen (p .parts) (p .number + 1) k) Loop ws
   unfolding nodesAt after
-  loop-entered body leads exits x = plain-written (rw exits) refl low-r (rw (leads, body)) x
+  loop-entered body leads exits x = plain-written p (rw exits) refl low-r (rw (leads, body)) x
 
   pub either-entered : {n m : ℕ} {rest end : List Token} → past ws 0 (p .number) ≡ beyond n rest → past rest 0 n ≡ beyond m end
       → k ≡ inside (p .exits) m → PutNode old new (p .number) (p .number + 1) n (plain r (p .number + 1) n)
       → WordWritten old new p (pen (p .parts) (p .number + 1) k) Either ws
   unfolding nodesAt after
-  either-entered first second exits x = plain-written (rw (exits, first, second)) refl low-r (rw first) x
+  either-entered first second exits x = plain-written p (rw (exits, first, second)) refl low-r (rw first) x
 
 -- ── Out of a block ──────────────────────────────────────────────────────────
 module _ {old : List ℕ} (p : Pen) {ws : List Token} where
@@ -38,7 +38,7 @@ module _ {old : List ℕ} (p : Pen) {ws : List Token} where
       → WroteNodes old new (p .number) to (alone r PLAIN 0 to) → WordWritten old new p (pen (p .parts) (p .number + 1) (p .exits / 256)) Close ws
   unfolding nodesAt after closed
   second-closed e low-r leads x =
-      single-written (rw (ne-eqb (p .exits) 0 (λ z. omega arith), eq-eqb (p .exits % 256) (p .number + 1) e))
+      single-written p (rw (ne-eqb (p .exits) 0 (λ z. omega arith), eq-eqb (p .exits % 256) (p .number + 1) e))
       (rw (eq-eqb (p .exits % 256) (p .number + 1) e)) low-r (λ _. refl) refl leads x
 
   module _ (some : p .exits ≡ 0 → ⊥) (apart : p .exits % 256 ≡ p .number + 1 → ⊥) where

@@ -18,7 +18,7 @@ low-plain : (r a b : ℕ) → Low (plain r a b) → (r < 256) × (a < 256) × (b
 low-plain r a b = of-plain (λ m. Low m → (r < 256) × (a < 256) × (b < 256)) r a b
     (λ _ h. (h .routine, h .first, h .second)) (λ _ h. (h .routine, h .second, h .first))
 
-module _ {old new : List ℕ} {p q : Pen} {w : Token} {ws : List Token} (goes : q ≡ after p w ws) where
+module _ {old new : List ℕ} (p : Pen) {q : Pen} {w : Token} {ws : List Token} (goes : q ≡ after p w ws) where
   -- the nodes that w makes are L
   listed : {L : Listing} → nodesAt p w ws ≡ L → length new ≡ length old
       → (Room (p .number + length L) old → All Low L → HoldsNodes old new (p .number) L) → WordWritten old new p q w ws
@@ -49,4 +49,4 @@ module _ {old new : List ℕ} {p q : Pen} {w : Token} {ws : List Token} (goes : 
 
 -- A WORD THAT MAKES NO NODE
 pub none-written : {old : List ℕ} {p q : Pen} {w : Token} {ws : List Token} → q ≡ after p w ws → nodesAt p w ws ≡ [] → WordWritten old old p q w ws
-none-written goes e = listed goes e refl (λ _ _. record { bytes = refl })
+none-written {p = p} goes e = listed p goes e refl (λ _ _. record { bytes = refl })

@@ -79,7 +79,14 @@ none-found s at r passed h =
     record {
       same = passed .same ∙ no-word s r h;
       later = passed .later;
-      found = record { ordered = omega arith; within = within; some = λ z. absurd (z refl); none = λ _. omega arith; kind = λ z. omega arith; small = λ z. omega arith };
+      found = record {
+        ordered = omega arith;
+        within = within;
+        some = λ z. absurd (z refl);
+        none = λ _. omega arith;
+        kind = λ z. omega arith;
+        small = λ z. omega arith;
+      };
     }
 
 -- THE WORD THAT BEGINS THERE

@@ -56,7 +56,8 @@ returns c =
     let followed = low .before .before in
     let place = followed .before .before in
     let look = looked place .look .ensures in
-    single-written refl refl (low .low .ensures) (kind .low2 .ensures) (place .location .ensures ∙ sym (look-location look))
+    let p = looked place .before .before .before .before .args .p in
+    single-written p refl refl (low .low .ensures) (kind .low2 .ensures) (place .location .ensures ∙ sym (look-location look))
     (followed .follow .ensures ∙ ap (follows _ _) (sym (look-located look))) (put .put-single .ensures)
 
 pub write-access-spec : {M : Type 1} → statement M

@@ -26,7 +26,9 @@ unfolding nodesAt after
 returns c =
     let put = c .before .before in
     let low = put .before in
-    single-written refl refl (low .low .ensures) (λ _. refl) refl (low .before .before .follow .ensures) (put .put-single .ensures)
+    let followed = low .before .before in
+    let p = followed .before .before .before .before .args .p in
+    single-written p refl refl (low .low .ensures) (λ _. refl) refl (followed .follow .ensures) (put .put-single .ensures)
 
 pub write-fence-spec : {M : Type 1} → statement M
 write-fence-spec = tie.close (tie.spec add-next follow-requires low-requires put-single-requires same-length returns)
