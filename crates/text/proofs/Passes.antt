@@ -44,19 +44,15 @@ other-past c v ws o n no-open no-close =
     (λ e. absurd (no-close e)) (λ _. refl) (λ _. refl) (λ _. none) none
 
 pub passing-starts : {s at : List ℕ} → endOf at ≤ length s → passedOf at ≤ endOf at → Passing s at at 0
-passing-starts within few = record { same = refl; later = omega arith; within = within; few = few; less = omega arith }
+passing-starts within few = record { same = refl; within = within; few = few; less = omega arith }
 
 module _ {s old at new : List ℕ} {o c : ℕ} (so : Passing s old at o) (l : Looked s at new c) where
   few-new : passedOf new ≤ endOf new
   few-new = let a = so .few in let b = look-later l in let e = l .passed in omega arith
 
-  later-new : endOf old ≤ endOf new
-  later-new = let a = so .later in let b = look-later l in omega arith
-
   ends : past (tokens s (endOf at)) o (passedOf at) ≡ beyond (passedOf at) (tokens s (endOf new)) → PastBlock s old new
   ends e = record {
     same = so .same ∙ e ∙ ap (λ (n : ℕ). beyond n (tokens s (endOf new))) (sym (l .passed));
-    later = later-new;
     within = look-within l;
     few = few-new;
   }
@@ -82,7 +78,6 @@ module _ {s old at new : List ℕ} {o c : ℕ} (so : Passing s old at o) (l : Lo
               ∙ ap (λ (ws : List Token). past ws o (passedOf at)) read-close
               ∙ close-inner (tokens s (endOf new)) o (passedOf at) h
               ∙ ap (past (tokens s (endOf new)) (o - 1)) (sym (l .passed));
-          later = later-new;
           within = look-within l;
           few = few-new;
           less = omega arith;
@@ -103,7 +98,6 @@ module _ {s old at new : List ℕ} {o c : ℕ} (so : Passing s old at o) (l : Lo
         let f = p .passed in
         let g = l .passed in
         let i = room in
-        let j = later-new in
         let k = look-within l in
         let n : passedOf at + r ≡ passedOf newer = omega arith in
         record {
@@ -112,7 +106,6 @@ module _ {s old at new : List ℕ} {o c : ℕ} (so : Passing s old at o) (l : Lo
               ∙ ap (λ (ws : List Token). past ws o (passedOf at)) (look-some l some)
               ∙ e
               ∙ rw (q, n);
-          later = omega arith;
           within = omega arith;
           few = omega arith;
           less = omega arith;

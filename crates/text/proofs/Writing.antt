@@ -98,7 +98,7 @@ module _ {s old now at new : List ℕ} {p : Pen} {c : ℕ} (so : TextWrites s ol
       let all : written s ≡ so .done =
       so .same ∙ ap (λ (ws : List Token). so .done ++ run p ws) (look-none l e) ∙ append-nil (so .done) in
       let count = so .count in
-      record { kept = so .kept; bytes = rw all (λ room low. so .bytes (omega arith) low) }
+      record { bytes = rw all (λ room low. so .bytes (omega arith) low) }
 
   module _ (some : c ≡ nothingCode → ⊥) where
     pub word-at : WordAt s (endOf new) p

@@ -84,7 +84,6 @@ none-found s at r passed h =
         within = within;
         some = λ z. absurd (z refl);
         none = λ _. omega arith;
-        kind = λ z. omega arith;
         small = λ z. omega arith;
       };
     }
@@ -103,7 +102,6 @@ one-found s at a e w passed h ends told =
         within = ends .within;
         some = λ _. some;
         none = λ z. absurd (told .some z);
-        kind = told .kind;
         small = told .small;
       };
     }

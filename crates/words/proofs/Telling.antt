@@ -90,7 +90,6 @@ module _ (w : List ℕ) where
       record {
         token = rw e (sym (something by-code (λ z. h (e ∙ z))));
         some = λ z. omega arith;
-        kind = λ _. omega arith;
         small = λ _. omega arith;
       }
 
@@ -103,7 +102,6 @@ module _ (w : List ℕ) where
     says-access {k} e h = record {
       token = rw e (sym (past-code ∙ something by-access (λ z. h (e ∙ z))));
       some = λ z. omega arith;
-      kind = λ _. omega (arith, leb-true (accessOf w) RMW (by-access .fits));
       small = λ z. omega arith;
     }
 
@@ -116,7 +114,6 @@ module _ (w : List ℕ) where
       says-location {n} e h = record {
         token = rw e (sym (past-access ∙ something by-location (λ z. h (e ∙ z))));
         some = λ z. omega arith;
-        kind = λ z. omega arith;
         small = λ _. omega (arith, leb-true (locationOf w) NOWHERE (by-location .fits));
       }
 
@@ -125,6 +122,5 @@ module _ (w : List ℕ) where
       says-other {n} e h = record {
         token = sym (past-access ∙ nothing-said by-location (sym e ∙ h));
         some = λ z. omega arith;
-        kind = λ z. omega arith;
         small = λ z. omega arith;
       }

@@ -23,7 +23,7 @@ unfoldable pub tokens : List ℕ → ℕ → List Token
 tokens s p = tokensOf (unread s p)
 
 -- ── Blocks passed ───────────────────────────────────────────────────────────
--- how many nodes a word counts for: each brace that opens a block of a loop or an either counts for one of its own nodes
+-- how many nodes a word counts for: each brace that opens a block of a loop or an either counts for one of the item's own nodes
 abbrev pub makes : Token → ℕ
 makes Open = 1
 makes Fence = 1
@@ -35,6 +35,7 @@ makes Close = 0
 makes (Number n) = 0
 makes Other = 0
 
+-- as the code counts them, by the word's code
 pub record Makes (code r : ℕ) : Type 0 where
   pub same : (v : ℕ) → r ≡ makes (tokenOf code v)
   pub few : r ≤ 1
@@ -65,24 +66,23 @@ past (Other ∷ ws) o n = past ws o n
 -- the cursor went past a block, and counted its nodes
 pub record PastBlock (s old new : List ℕ) : Type 0 where
   pub same : past (tokens s (endOf old)) 0 (passedOf old) ≡ beyond (passedOf new) (tokens s (endOf new))
-  pub later : endOf old ≤ endOf new
   pub within : endOf new ≤ length s
   pub few : passedOf new ≤ endOf new
 
 -- the cursor is on its way past a block, in which o braces are open
 pub record Passing (s old at : List ℕ) (o : ℕ) : Type 0 where
   pub same : past (tokens s (endOf old)) 0 (passedOf old) ≡ past (tokens s (endOf at)) o (passedOf at)
-  pub later : endOf old ≤ endOf at
   pub within : endOf at ≤ length s
   pub few : passedOf at ≤ endOf at
   pub less : o ≤ endOf at
 
 -- ── Exits ───────────────────────────────────────────────────────────────────
--- the exits of all open loops and eithers as one number: the innermost block's end leads to the node before the last eight bits' number
+-- the exits of all open blocks are one number, eight bits a level: the end of the innermost one leads to the node whose number and one
+-- more its last eight bits are, or nowhere
 unfoldable pub exitOf : ℕ → ℕ
 exitOf k = cond (eqb (k % 256) 0) none (k % 256 - 1)
 
--- one block more, whose end leads to node x - 1; there are eight levels at the most
+-- the exits with a block more, whose end leads to node x - 1; a good text has eight levels at the most
 unfoldable pub inside : ℕ → ℕ → ℕ
 inside k x = cond (ltb k 72057594037927936) (256 * k + x % 256) k
 

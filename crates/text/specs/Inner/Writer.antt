@@ -36,5 +36,4 @@ pub record TextWrites (s old now at : List ℕ) (p : Pen) : Type 0 where
 
 -- all words are written
 pub record TextWritten (s old new : List ℕ) : Type 0 where
-  pub kept : length new ≡ length old
   pub bytes : Room (length (written s)) old → All Low (written s) → HoldsNodes old new 0 (written s)

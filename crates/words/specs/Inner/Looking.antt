@@ -5,7 +5,6 @@ use mathlib.Core.List.{List, [], _∷_}
 use Prim.Native.Nat.{ℕ, _<_, _≤_}
 use lib.ListN.{length, drop, getD}
 use lib.Dec.{eqb}
-use Rattle.listing.specs.Kinds.{RMW}
 use Rattle.words.specs.declared.Found.{Found}
 use Rattle.words.specs.Words.{Token, Routine, Loop, Either, Open, Close, Fence, Access, Number, Other, Word, FARTHEST, isBlank}
 use Rattle.words.specs.Words.{wordsFrom, meaning}
@@ -78,7 +77,6 @@ pub record Place (s : List ℕ) (w : Found) : Type 0 where
   pub within : w .end ≤ length s
   pub some : (w .code ≡ nothingCode → ⊥) → w .start < w .end
   pub none : w .code ≡ nothingCode → w .start ≡ length s
-  pub kind : w .code ≡ accessCode → w .value ≤ RMW
   pub small : w .code ≡ numberCode → w .value ≤ FARTHEST
 
 -- what looking for the next word at a place finds

@@ -8,7 +8,7 @@ use Rattle.listing.specs.Kinds.{PLAIN, READ, WRITE, RMW}
 use Rattle.listing.specs.Ascii.{bytes}
 use Rattle.words.specs.declared.tell.Saying.{Saying}
 use Rattle.words.specs.Words.{FARTHEST, allDigits, valueFrom, number, same, meaning}
-use Rattle.words.specs.Inner.Looking.{nothingCode, routineCode, loopCode, eitherCode, openCode, closeCode, fenceCode, accessCode}
+use Rattle.words.specs.Inner.Looking.{nothingCode, routineCode, loopCode, eitherCode, openCode, closeCode, fenceCode}
 use Rattle.words.specs.Inner.Looking.{numberCode, otherCode, tokenOf}
 
 -- the code of a word that says a thing by itself, or otherCode
@@ -41,5 +41,4 @@ locationOf w = cond (number w) (valueFrom 0 w) NOWHERE
 pub record SaysWord (w : List ℕ) (r : Saying) : Type 0 where
   pub token : tokenOf (r .code) (r .value) ≡ meaning w
   pub some : r .code ≡ nothingCode → ⊥
-  pub kind : r .code ≡ accessCode → r .value ≤ RMW
   pub small : r .code ≡ numberCode → r .value ≤ FARTHEST
