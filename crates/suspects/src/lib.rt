@@ -74,7 +74,7 @@ fn keep_clear(question: u8, bytes: &[u8], v: &mut [u64; WORDS], c: &mut [u64; WO
 }
 
 // The pairs, who meets whom, and the suspects: the pairs on a chain with a walk that no barrier bars. i and v are for the work: i keeps who
-// comes round until c keeps who returns, and v the pairs turned round until c keeps who leads back.
+// comes round until c keeps who returns; v the pairs turned round until c keeps who leads back, and then the walks without barrier.
 pub fn suspects(
     question: u8,
     bytes: &[u8],

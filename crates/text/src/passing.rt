@@ -58,11 +58,17 @@ pub fn past_block(s: &[u8], at: &mut [usize; 4])
     }
 }
 
+// The exits of the open blocks are one number, in which a level takes eight bits.
+pub const LEVEL: usize = 256;
+
+// From here on they have no room for one level more: 56 bits are seven.
+const FULL: usize = 72057594037927936;
+
 // Where the end of the innermost open block leads: its node's number and one more are the exits' last eight bits.
 pub fn exit(exits: usize) -> usize
     ensures { λ r. ⌜ r ≡ exitOf exits ⌝ }
 {
-    let next = exits % 256;
+    let next = exits % LEVEL;
     if next == 0 {
         return NOWHERE;
     }
@@ -73,8 +79,8 @@ pub fn exit(exits: usize) -> usize
 pub fn within(exits: usize, next: usize) -> usize
     ensures { λ r. ⌜ r ≡ inside exits next ⌝ }
 {
-    if exits < 72057594037927936 {
-        return 256 * exits + next % 256;
+    if exits < FULL {
+        return LEVEL * exits + next % LEVEL;
     }
     // not in a good text
     exits

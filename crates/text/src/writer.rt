@@ -6,6 +6,7 @@ ghost use Rattle.text.specs.Inner.Writer.{WordAt, WordWritten, TextWritt
 use crate::nodes::low;
 use crate::nodes::put_plain;
 use crate::nodes::put_single;
+use crate::passing::LEVEL;
 use crate::passing::follow;
 use crate::passing::location;
 use crate::passing::past_block;
@@ -110,8 +111,9 @@ fn write_close(s: &[u8], end: usize, p: Pen, out: &mut [u8]) -> Pen
             exits: 0,
         };
     }
-    let top = p.exits % 256;
-    let outer = p.exits / 256;
+    let top = p.exits % LEVEL;
+    let outer = p.exits / LEVEL;
+    // the next node is the one in which an either's blocks meet
     if top == next {
         let leads = follow(s, end, outer, next);
         put_single(&mut *out, p.number, low(p.parts), PLAIN, 0, leads);
@@ -121,6 +123,7 @@ fn write_close(s: &[u8], end: usize, p: Pen, out: &mut [u8]) -> Pen
             exits: outer,
         };
     }
+    // a loop's body leads back
     if top < next {
         return Pen {
             parts: p.parts,
