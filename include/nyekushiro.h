@@ -10,7 +10,7 @@
  * - a pointer is not null, even where its length is 0;
  * - it points to at least as many bytes as its length says;
  * - a lent buffer overlaps no other argument.
- * No call takes more than 12 KiB of stack: that is measured (docs/DECISIONS.md, "Stack"), and no theorem. Of its surroundings the archive
+ * No call that was measured took more than 12 KiB of stack (docs/DECISIONS.md, "Stack"); no theorem bounds it. Of its surroundings the archive
  * needs memcpy and memset: no heap, no floating point, no operating system.
  *
  * A refusal leaves every lent buffer as it was. Bytes of a lent buffer beyond what is said here keep their values.
