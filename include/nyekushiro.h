@@ -21,10 +21,10 @@
 #include <stddef.h>
 #include <stdint.h>
 
-#define NYEKUSHIRO_VERSION "1.2.1"
+#define NYEKUSHIRO_VERSION "1.3.0"
 #define NYEKUSHIRO_VERSION_MAJOR 1
-#define NYEKUSHIRO_VERSION_MINOR 2
-#define NYEKUSHIRO_VERSION_PATCH 1
+#define NYEKUSHIRO_VERSION_MINOR 3
+#define NYEKUSHIRO_VERSION_PATCH 0
 
 #ifdef __cplusplus
 extern "C" {
@@ -47,16 +47,16 @@ enum nyekushiro_kind {
 
 /* Why a service refuses, and in brackets what its place is: a node of the listing, an index of the map, or a byte of the text, or its length. */
 enum nyekushiro_refusal {
-    NYEKUSHIRO_REFUSED_QUESTION = 1,          /* question not 1 to 4 */
+    NYEKUSHIRO_REFUSED_QUESTION = 1,          /* question not 1 to 6 */
     NYEKUSHIRO_REFUSED_HEADING = 2,           /* fewer than 7 bytes */
     NYEKUSHIRO_REFUSED_MARK = 3,              /* mark wrong */
-    NYEKUSHIRO_REFUSED_VERSION = 4,           /* version not 1 */
+    NYEKUSHIRO_REFUSED_VERSION = 4,           /* version not 1 or 2 */
     NYEKUSHIRO_REFUSED_ROUTINES = 5,          /* F is 0 or over 16 */
     NYEKUSHIRO_REFUSED_NODES = 6,             /* N over 128 */
     NYEKUSHIRO_REFUSED_LENGTH = 7,            /* length not 7 + 6N */
     NYEKUSHIRO_REFUSED_ROUTINE = 8,           /* node's routine not below F [node] */
-    NYEKUSHIRO_REFUSED_KIND = 9,              /* kind over 4 [node] */
-    NYEKUSHIRO_REFUSED_LOCATION = 10,         /* kind 0 or 4 with a location other than 0 [node] */
+    NYEKUSHIRO_REFUSED_KIND = 9,              /* kind over 4 in version 1, over 9 in version 2 [node] */
+    NYEKUSHIRO_REFUSED_LOCATION = 10,         /* kind 0, 4, 7 or 8 with a location other than 0 [node] */
     NYEKUSHIRO_REFUSED_SUCCESSOR = 11,        /* successor neither 255 nor below N, or in another routine [node] */
     NYEKUSHIRO_REFUSED_SECOND_SUCCESSOR = 12, /* second successor without a first, or not larger than it [node] */
     NYEKUSHIRO_REFUSED_MAP_LENGTH = 13,       /* map length not N */
@@ -66,12 +66,14 @@ enum nyekushiro_refusal {
     NYEKUSHIRO_REFUSED_TEXT = 17              /* bad text [byte] */
 };
 
-/* The questions. */
+/* The questions. Each may be asked of a listing of either version. */
 enum nyekushiro_question {
     NYEKUSHIRO_SC_ON_X86 = 1,
     NYEKUSHIRO_SC_ON_ARMV7 = 2,
     NYEKUSHIRO_X86_ON_ARMV7 = 3,
-    NYEKUSHIRO_ARMV8_ON_ARMV7 = 4
+    NYEKUSHIRO_ARMV8_ON_ARMV7 = 4,
+    NYEKUSHIRO_SC_ON_ARMV8 = 5,
+    NYEKUSHIRO_X86_ON_ARMV8 = 6
 };
 
 /* Room that is enough for every listing: for a chain, a map, and a listing. */
@@ -81,7 +83,9 @@ enum nyekushiro_room {
     NYEKUSHIRO_LISTING_BUFFER = 775
 };
 
-/* The kinds of nodes in a listing, whose format is docs/LISTING.md.
+/* The kinds of nodes in a listing, whose format is docs/LISTING.md. Those after the fence are for listings of version 2, whose byte 3
+ * is 2. Under the questions 5 and 6 they say what ARMv8 keeps in order; under the others acquire and acquirePC count as reads, a
+ * release counts as a write, and load and store fences count as plain.
  *
  * An RMW always completes. A compare-and-swap that may fail is no barrier under question 1, and listed as an RMW it wrongly counts
  * as one. Until there is a kind for it, write a plain node with two successors, the RMW and a read of the same cell, which both
@@ -94,7 +98,12 @@ enum nyekushiro_node {
     NYEKUSHIRO_NODE_READ = 1,
     NYEKUSHIRO_NODE_WRITE = 2,
     NYEKUSHIRO_NODE_RMW = 3,
-    NYEKUSHIRO_NODE_FENCE = 4
+    NYEKUSHIRO_NODE_FENCE = 4,
+    NYEKUSHIRO_NODE_ACQUIRE = 5,
+    NYEKUSHIRO_NODE_RELEASE = 6,
+    NYEKUSHIRO_NODE_LOAD_FENCE = 7,
+    NYEKUSHIRO_NODE_STORE_FENCE = 8,
+    NYEKUSHIRO_NODE_ACQUIRE_PC = 9
 };
 
 enum nyekushiro_mark {
@@ -122,12 +131,12 @@ nyekushiro_answer nyekushiro_judge_patch(uint64_t question, const uint8_t *listi
 nyekushiro_answer nyekushiro_propose(uint64_t question, const uint8_t *listing, size_t listing_len,
                                      uint8_t *map, size_t map_len);
 
-/* Writes the patched listing. DONE: count = its length, 7 + 6(N + places), and so many bytes at the start of `out` are it.
- * `out` must have that many. */
+/* Writes the patched listing, in the version that it has; a fence put in is NYEKUSHIRO_NODE_FENCE. DONE: count = its length,
+ * 7 + 6(N + places), and so many bytes at the start of `out` are it. `out` must have that many. */
 nyekushiro_answer nyekushiro_write(const uint8_t *listing, size_t listing_len, const uint8_t *map, size_t map_len,
                                    uint8_t *out, size_t out_len);
 
-/* Reads a typed text, parts `routine { block }` (docs/LISTING.md), and writes its listing. DONE: count = its length, 7 + 6N, and
+/* Reads a typed text, parts `routine { block }` (docs/LISTING.md), and writes its version 1 listing. DONE: count = its length, 7 + 6N, and
  * so many bytes at the start of `out` are it. `out` must have that many.
  * REFUSED by NYEKUSHIRO_REFUSED_TEXT: second = the first byte of the first word that can't stand there, or text_len if the text
  * breaks off; then by _ROUTINES if it has no words or more than 16 parts, by _NODES and by _BUFFER. */

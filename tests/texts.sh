@@ -52,7 +52,7 @@ try 0 ACCEPTED '' accept 1 "$text"
 said 'The listing is robust as it is.' accept 1 fader.txt
 try 1 'OPEN 2 3 2 2-3 0-1' 'With these fences nothing assures' accept 3 "$text" 0
 try 2 'REFUSED 13 0' "which this lists: $root/nyekushiro show $text" accept 3 "$text" 4
-try 2 'REFUSED 1 0' 'Next: ask 1, 2, 3 or 4' judge 5 "$text"
+try 2 'REFUSED 1 0' 'Next: ask 1, 2, 3, 4, 5 or 6' judge 7 "$text"
 cp "$text" "$room/in"
 try 1 'OPEN 0 1 2 0-1 2-3' 'In the text:' judge 3 -
 try 0 ACCEPTED '' accept 3 - 0 2
@@ -227,6 +227,14 @@ for word in dmb DMB dsb fence lfence sfence; do
      |               ^
 $more
 Next: write 'f' for it if it orders all loads and stores; leave out one that orders only some."
+done
+for word in ldar LDAPR acquire stlr STLR release; do
+    case $word in ld* | LD* | acq*) access=r ;; *) access=w ;; esac
+    mistake "routine { $word 1 }" 10 "Line 1, column 11: '$word' cannot stand here.
+   1 | routine { $word 1 }
+     |           ^
+$item
+Next: write '$access N' for it; acquire and release are in listings of version 2 only."
 done
 for word in rmw CAS xchg cmpxchg swp swap ldrex ldxr ldaxr; do
     mistake "routine { $word 1 }" 10 "Line 1, column 11: '$word' cannot stand here.

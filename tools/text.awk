@@ -198,9 +198,13 @@ function advice_item(word) {
     if (word == "{") return "write loop or either before a block"
     if (word ~ /^[0-9]+$/) return "write r, w or u before each number"
     if (word ~ /^([ls]?fence|d[ms]b)$/) return "write 'f' for it if it orders all loads and stores; leave out one that orders only some"
+    if (word ~ /^(ldap?r|acquire)$/) return "write 'r N' for it" version_2()
+    if (word ~ /^(stlr|release)$/) return "write 'w N' for it" version_2()
     if (word ~ /^(rmw|cas|(cmp)?xchg|swp|swap|ldrex|lda?xr)$/) return "write 'u N' if it always completes, else 'either { u N } { r N }'"
     if (word in meant) return "write '" meant[word] "' for it"
     return correct_it()
 }
+
+function version_2() { return "; acquire and release are in listings of version 2 only" }
 
 function correct_it() { return "correct it; " ENVIRON["me"] " help type shows how a text is typed" }

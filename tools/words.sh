@@ -43,10 +43,10 @@ smaller="Keep all routines that may share a cell in one listing; take out plain 
 
 remedy() { # NUMBER PLACE
     case $1 in
-    1) echo 'ask 1, 2, 3 or 4, or one of sc-x86, sc-armv7, x86-armv7, armv8-armv7.' ;;
+    1) echo 'ask 1, 2, 3, 4, 5 or 6, or one of sc-x86, sc-armv7, x86-armv7, armv8-armv7, sc-armv8, x86-armv8.' ;;
     2 | 3 | 4)
-        echo 'is this a listing? One starts with the bytes 4F 52 44 01 00 (ORD, version 1). A typed text does not start with ORD'
-        echo 'and has no zero byte: save it as plain text, not as UTF-16.'
+        echo 'is this a listing? One starts with the bytes 4F 52 44 (ORD), then 01 00 or 02 00 (version 1 or 2).'
+        echo 'A typed text does not start with ORD and has no zero byte: save it as plain text, not as UTF-16.'
         ;;
     5) echo 'byte 5 is the routine count F; it must be 1 to 16.' ;;
     6) printf '%s\n' 'byte 6 is the node count N; it must be at most 128.' "$smaller" ;;
@@ -56,7 +56,13 @@ remedy() { # NUMBER PLACE
         case $command in accept) few=' Name fewer nodes.' ;; *) few='' ;; esac
         printf '%s\n' "the listing with its fences has over 128 nodes.$few" "$smaller"
         ;;
-    *) echo "correct node $2: its six bytes start at byte $((7 + 6 * $2)) of the listing." ;;
+    *)
+        echo "correct node $2: its six bytes start at byte $((7 + 6 * $2)) of the listing."
+        case $1 in
+        9) echo 'The second of them is the kind. Kinds 5 to 9 are of version 2 only: bytes 3 and 4 of the listing are then 02 00.' ;;
+        10) echo 'The third and fourth are the location, 00 00 where the kind is plain or a fence, be it full, load or store.' ;;
+        esac
+        ;;
     esac
 }
 
@@ -119,19 +125,19 @@ reads() { # NODE NODE
     esac
 }
 
-# Whether a node is a read: sets at to its location.
+# Whether a node is a read, an acquire read or an acquirePC read: sets at to its location.
 read_at() { # NODE OCTAL..: a listing's bytes
     shift $((8 + 6 * $1))
     at=$3$4
-    [ "$2" = 001 ]
+    case $2 in 001 | 005 | 011) ;; *) return 1 ;; esac
 }
 
-# The first write or RMW that may meet accesses of both locations: sets node.
+# The first write, release write or RMW that may meet accesses of both locations: sets node.
 writer() { # LOCATION LOCATION OCTAL..: a listing's bytes
     one=$1 other=$2 node=0
     shift 9
     while [ $# -ge 6 ]; do
-        case $2 in 002 | 003) overlap "$3$4" "$one" && overlap "$3$4" "$other" && return ;; esac
+        case $2 in 002 | 003 | 006) overlap "$3$4" "$one" && overlap "$3$4" "$other" && return ;; esac
         shift 6
         node=$((node + 1))
     done
@@ -184,7 +190,7 @@ vague() { # OCTAL..: a listing's bytes
     [ $# -lt 7 ] || shift 7
     while [ $# -ge 6 ]; do
         case $2-$3$4 in
-        00[123]-000000 | 00[123]-???[23]??) return 0 ;;
+        00[12356]-000000 | 00[12356]-???[23]?? | 011-000000 | 011-???[23]??) return 0 ;;
         esac
         shift 6
     done

@@ -1,5 +1,5 @@
 /* Every service where there is no operating system, no C library and no heap: linked with nothing but the two functions below.
-   The fader is typed, judged, proposed for, judged with that map and written. */
+   The fader is typed, judged, proposed for, judged with that map and written; and judged for ARMv8 with its fences in version 2. */
 #include <nyekushiro.h>
 
 /* All that the archive asks of a board. A compiler would make these loops calls of themselves, if it weren't told not to. */
@@ -32,6 +32,14 @@ static int first_wrong(void) {
     if (a.kind != NYEKUSHIRO_ROBUST) return 5;
     a = nyekushiro_write(listing, LENGTH, map, NODES, written, sizeof written);
     if (a.kind != NYEKUSHIRO_DONE || a.count != LENGTH + 2 * 6) return 6;
+    /* a store fence is enough between the two writes, and a load fence between the two reads */
+    written[3] = 2;
+    written[LENGTH + 1] = NYEKUSHIRO_NODE_STORE_FENCE;
+    written[LENGTH + 6 + 1] = NYEKUSHIRO_NODE_LOAD_FENCE;
+    a = nyekushiro_judge(NYEKUSHIRO_SC_ON_ARMV8, written, LENGTH + 2 * 6, chain, sizeof chain);
+    if (a.kind != NYEKUSHIRO_ROBUST) return 3;
+    a = nyekushiro_judge(NYEKUSHIRO_SC_ON_ARMV7, written, LENGTH + 2 * 6, chain, sizeof chain);
+    if (a.kind != NYEKUSHIRO_OPEN || a.first != 0 || a.second != 1) return 3;
     return 0;
 }
 

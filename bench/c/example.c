@@ -1,9 +1,11 @@
-/* Case A from C: judge a listing, ask for a patch, write the patched listing, judge it again. Then the fader, typed. */
+/* Case A from C: judge a listing, ask for a patch, write the patched listing, judge it again. Then the fader, typed; and once more with
+   a release and an acquire, which ARMv8 keeps in order. */
 #include <stdio.h>
 
 #include <nyekushiro.h>
 
 enum { WRITE = NYEKUSHIRO_NODE_WRITE, READ = NYEKUSHIRO_NODE_READ, NONE = NYEKUSHIRO_NO_SUCCESSOR };
+enum { RELEASE = NYEKUSHIRO_NODE_RELEASE, ACQUIRE = NYEKUSHIRO_NODE_ACQUIRE };
 
 static void say(nyekushiro_answer answer, const uint8_t *chain)
 {
@@ -36,6 +38,20 @@ static void type_the_fader(uint8_t *chain)
     say(nyekushiro_text(text, length - 1, listing, sizeof listing), chain);
 }
 
+static void release_the_fader(uint8_t *chain)
+{
+    /* version 2: 0 write x, 1 release y; 2 acquire y, 3 read x */
+    const uint8_t listing[31] = {
+        0x4F, 0x52, 0x44, 2, 0, 2, 4,
+        0, WRITE, 1, 0, 1, NONE,
+        0, RELEASE, 2, 0, NONE, NONE,
+        1, ACQUIRE, 2, 0, 3, NONE,
+        1, READ, 1, 0, NONE, NONE,
+    };
+    say(nyekushiro_judge(NYEKUSHIRO_SC_ON_ARMV8, listing, sizeof listing, chain, NYEKUSHIRO_CHAIN_BUFFER), chain);
+    say(nyekushiro_judge(NYEKUSHIRO_SC_ON_ARMV7, listing, sizeof listing, chain, NYEKUSHIRO_CHAIN_BUFFER), chain);
+}
+
 int main(void)
 {
     /* 0 write x, 1 read y; 2 write y, 3 read x */
@@ -53,7 +69,7 @@ int main(void)
     nyekushiro_answer size = nyekushiro_read(listing, sizeof listing);
     printf("%llu nodes, %llu routines\n", (unsigned long long)size.first, (unsigned long long)size.second);
     say(nyekushiro_judge(NYEKUSHIRO_SC_ON_X86, listing, sizeof listing, chain, sizeof chain), chain);
-    say(nyekushiro_judge(5, listing, sizeof listing, chain, sizeof chain), chain);
+    say(nyekushiro_judge(7, listing, sizeof listing, chain, sizeof chain), chain);
     say(nyekushiro_judge(NYEKUSHIRO_SC_ON_X86, listing, sizeof listing - 1, chain, sizeof chain), chain);
 
     nyekushiro_answer proposal = nyekushiro_propose(NYEKUSHIRO_SC_ON_X86, listing, sizeof listing, map, sizeof map);
@@ -65,5 +81,6 @@ int main(void)
     say(nyekushiro_judge(NYEKUSHIRO_SC_ON_X86, patched, written.count, chain, sizeof chain), chain);
 
     type_the_fader(chain);
+    release_the_fader(chain);
     return 0;
 }

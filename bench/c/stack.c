@@ -8,7 +8,7 @@
 #include "nyekushiro.h"
 
 enum { NODES = NYEKUSHIRO_MAP_BUFFER, HEADING = 7, RECORD = 6, LISTING = NYEKUSHIRO_LISTING_BUFFER, ROOM = 1 << 20, PAINT = 0xA5 };
-enum { QUESTIONS = 4, SHAPES = 12, LEVELS = 8, LONG = 64 << 20 };
+enum { QUESTIONS = 6, SHAPES = 24, LEVELS = 8, LONG = 64 << 20 };
 
 /* The services, and the bytes of stack that each may take at most. */
 enum { THREAD, READ, JUDGE, JUDGE_PATCH, PROPOSE, WRITE, TEXT, SERVICES };
@@ -26,7 +26,7 @@ static nyekushiro_answer answer;
 static uint64_t question;
 static int service;
 static size_t deepest[SERVICES];
-static int shown; /* how often judging showed a chain */
+static int shown[QUESTIONS + 1][3]; /* how often judging showed a chain, by question and version */
 
 static void *call(void *unused) {
     (void)unused;
@@ -61,16 +61,25 @@ static void measure(int called) {
     if (ROOM - untouched > deepest[called]) deepest[called] = ROOM - untouched;
 }
 
+/* The kinds of version 2's nodes in turn: every access, load and store fences. */
+static const uint8_t version_2[] = {
+    NYEKUSHIRO_NODE_WRITE,   NYEKUSHIRO_NODE_STORE_FENCE, NYEKUSHIRO_NODE_WRITE, NYEKUSHIRO_NODE_READ,
+    NYEKUSHIRO_NODE_READ,    NYEKUSHIRO_NODE_LOAD_FENCE,  NYEKUSHIRO_NODE_READ,  NYEKUSHIRO_NODE_RELEASE,
+    NYEKUSHIRO_NODE_ACQUIRE, NYEKUSHIRO_NODE_ACQUIRE_PC,  NYEKUSHIRO_NODE_RMW,
+};
+
 /* Routines of 8 nodes in a line; the cells by `cells`, and the last node of a routine leads back where `loops` is set. */
-static void fill(int nodes, int cells, int loops) {
+static void fill(int version, int nodes, int cells, int loops) {
     memcpy(listing, "ORD\1\0\20", 6);
+    listing[3] = (uint8_t)version;
     listing[6] = (uint8_t)nodes;
     for (int i = 0; i < nodes; i++) {
         uint8_t *record = listing + HEADING + RECORD * i;
         int last = i % 8 == 7 || i == nodes - 1;
         record[0] = (uint8_t)(i / 8);
-        record[1] = (uint8_t)(1 + (i * 7 / 3) % 3);
-        record[2] = (uint8_t)(1 + i * 5 % cells);
+        record[1] = version == 1 ? (uint8_t)(1 + (i * 7 / 3) % 3) : version_2[(size_t)i % sizeof version_2];
+        int fence = record[1] == NYEKUSHIRO_NODE_LOAD_FENCE || record[1] == NYEKUSHIRO_NODE_STORE_FENCE;
+        record[2] = (uint8_t)(fence ? 0 : 1 + i * 5 % cells);
         record[3] = 0;
         record[4] = (uint8_t)(last ? (loops ? i / 8 * 8 : 255) : i + 1);
         record[5] = 255;
@@ -80,13 +89,14 @@ static void fill(int nodes, int cells, int loops) {
 
 static void measure_listings(void) {
     for (int shape = 0; shape < SHAPES; shape++) {
-        fill(shape % 2 ? NODES : NODES - 16, 2 + shape * shape, shape % 3 == 0);
+        int version = 1 + shape / (SHAPES / 2), of_version = shape % (SHAPES / 2);
+        fill(version, shape % 2 ? NODES : NODES - 16, 2 + of_version * of_version, shape % 3 == 0);
         memset(map, 0, sizeof map);
         if (shape % 2 == 0) memset(map, 1, 16);
         for (question = 1; question <= QUESTIONS; question++)
             for (int called = THREAD; called <= WRITE; called++) {
                 measure(called);
-                shown += called == JUDGE && answer.kind == NYEKUSHIRO_OPEN;
+                shown[question][version] += called == JUDGE && answer.kind == NYEKUSHIRO_OPEN;
                 /* a full listing takes no further fence, and propose says so only once it has looked at every pair */
                 int full = called == PROPOSE && answer.kind == NYEKUSHIRO_REFUSED && answer.first == NYEKUSHIRO_REFUSED_PLACES;
                 if (answer.kind == NYEKUSHIRO_REFUSED && !full) {
@@ -149,10 +159,12 @@ static void measure_texts(void) {
 int main(void) {
     int over = 0;
     measure_listings();
-    if (!shown) {
-        printf("judge showed no chain: how deep that reaches was not measured\n");
-        return 1;
-    }
+    for (question = 1; question <= QUESTIONS; question++)
+        for (int version = 1; version <= 2; version++)
+            if (!shown[question][version]) {
+                printf("question %d, version %d: judge showed no chain, and how deep that reaches was not measured\n", (int)question, version);
+                return 1;
+            }
     measure_texts();
     for (int i = READ; i < SERVICES; i++) {
         if (deepest[i] < deepest[THREAD]) {

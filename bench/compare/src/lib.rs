@@ -2,10 +2,12 @@
 
 mod both;
 mod marked;
+mod mistakes;
 mod service;
 mod tally;
 
 pub use both::{ask_both, setting};
-pub use marked::Marked;
+pub use marked::{Marked, Row};
+pub use mistakes::count_changes;
 pub use service::{Service, Side};
 pub use tally::Tally;

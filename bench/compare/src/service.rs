@@ -29,6 +29,10 @@ impl Service {
         matches!(self, Service::Judge | Service::JudgePatch)
     }
 
+    pub fn takes_question(self) -> bool {
+        self.judges() || self == Service::Propose
+    }
+
     /// Whether it takes or proposes places for fences.
     pub fn has_places(self) -> bool {
         matches!(self, Service::JudgePatch | Service::Propose | Service::Write)
@@ -37,7 +41,7 @@ impl Service {
     /// Whether the service has the input that this refusal is about.
     pub fn may_refuse_by(self, number: u64) -> bool {
         match number {
-            1 => self.judges() || self == Service::Propose,
+            1 => self.takes_question(),
             5 | 6 => true,
             2..=4 | 7..=12 => self != Service::Text,
             13 | 14 => matches!(self, Service::JudgePatch | Service::Write),

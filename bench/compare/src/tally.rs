@@ -1,24 +1,34 @@
-//! How often each answer was met.
+//! How often each answer was met, by the version that the listing names.
 
 use std::fmt;
 
-use nyekushiro::{raw, Reason};
+use inputs::{Call, QUESTIONS, VERSIONS, VERSION_AT};
+use nyekushiro::{raw, Question, Reason};
 
 use crate::Service;
 
 const SERVICES: usize = Service::ALL.len();
 const REFUSALS: usize = Reason::ALL.len();
 
-/// By service: what it said where it did not refuse, and then each refusal.
 #[derive(Default)]
 pub struct Tally {
-    done: [usize; SERVICES],
-    open: [usize; SERVICES],
-    /// a proposal with a place, a written listing with a fence
-    with_places: [usize; SERVICES],
-    refused: [[usize; REFUSALS]; SERVICES],
+    /// of each version, and last of bytes that name none, and of texts
+    counts: [Counts; VERSIONS.len() + 1],
     longest_chain: u64,
 }
+
+/// By service: what it said where it did not refuse, and then each refusal.
+#[derive(Default)]
+struct Counts {
+    done: [Answered; SERVICES],
+    open: [Answered; SERVICES],
+    /// a proposal with a place, a written listing with a fence
+    with_places: [Answered; SERVICES],
+    refused: [[usize; REFUSALS]; SERVICES],
+}
+
+/// By question; a service that takes none has the first number.
+type Answered = [usize; QUESTIONS + 1];
 
 /// What to do about an answer that no service has.
 const BELONG: &str = "build the archive and the bench from the same repository";
@@ -33,19 +43,28 @@ fn row(number: u64) -> usize {
     number as usize - 1
 }
 
+/// Where the tally has the version that a listing's bytes name.
+fn version(listing: &[u8]) -> usize {
+    let named = |version: &u8| listing.get(VERSION_AT..VERSION_AT + 2) == Some(&[*version, 0]);
+    VERSIONS.iter().position(named).unwrap_or(VERSIONS.len())
+}
+
 impl Tally {
-    /// Counts an answer; `places` is what the call's own map has. Stops at an answer that the service does not have.
-    pub fn count(&mut self, service: Service, answer: raw::Answer, places: usize) {
+    /// Counts an answer to a call. Stops at an answer that the service does not have.
+    pub fn count(&mut self, service: Service, answer: raw::Answer, call: &Call) {
+        let counts = &mut self.counts[if service == Service::Text { VERSIONS.len() } else { version(&call.listing) }];
+        let places = call.map.iter().filter(|&&byte| byte == 1).count();
         let at = service as usize;
+        let question = if service.takes_question() { call.question as usize } else { 0 };
         match (answer.kind, service) {
-            (raw::Answer::DONE, Service::Propose) if answer.count > 0 => self.with_places[at] += 1,
-            (raw::Answer::DONE, Service::Write | Service::JudgePatch) if places > 0 => self.with_places[at] += 1,
-            (raw::Answer::DONE, _) => self.done[at] += 1,
+            (raw::Answer::DONE, Service::Propose) if answer.count > 0 => counts.with_places[at][question] += 1,
+            (raw::Answer::DONE, Service::Write | Service::JudgePatch) if places > 0 => counts.with_places[at][question] += 1,
+            (raw::Answer::DONE, _) => counts.done[at][question] += 1,
             (raw::Answer::OPEN, Service::Judge | Service::JudgePatch) => {
-                self.open[at] += 1;
+                counts.open[at][question] += 1;
                 self.longest_chain = self.longest_chain.max(answer.count);
             }
-            (raw::Answer::REFUSED, _) if service.may_refuse_by(answer.first) => self.refused[at][row(answer.first)] += 1,
+            (raw::Answer::REFUSED, _) if service.may_refuse_by(answer.first) => counts.refused[at][row(answer.first)] += 1,
             (raw::Answer::REFUSED, _) => {
                 panic!("{service:?} refused by {}, which is none of its refusals; {BELONG}", answer.first)
             }
@@ -56,15 +75,10 @@ impl Tally {
     /// What was never met, in words; a comparison that leaves something out means less than it seems.
     pub fn never_met(&self) -> Vec<String> {
         let mut missing = Vec::new();
-        for service in Service::ALL {
-            let at = service as usize;
-            let no_open = service.judges() && self.open[at] == 0;
-            let no_places = service.has_places() && self.with_places[at] == 0;
-            if self.done[at] == 0 || no_open || no_places {
-                missing.push(format!("{service:?}: an answer of some kind"));
-            }
-            for number in numbers().filter(|&number| service.may_refuse_by(number) && self.refused[at][row(number)] == 0) {
-                missing.push(format!("{service:?}: refusal {number}"));
+        for (version, counts) in self.counts.iter().enumerate() {
+            for (name, row) in counts.rows(version) {
+                let services = Service::ALL.into_iter().zip(row).filter(|(_, count)| *count == Some(0));
+                missing.extend(services.map(|(service, _)| format!("{}, {service:?}: {name}", NAMES[version])));
             }
         }
         if self.longest_chain < 40 {
@@ -74,30 +88,67 @@ impl Tally {
     }
 }
 
+/// What the tally has counts of.
+const NAMES: [&str; VERSIONS.len() + 1] = ["version 1", "version 2", "no such version, or a text"];
+
+/// What is counted, and by service how often it was met, where it can be.
+type Row = (String, [Option<usize>; SERVICES]);
+
+impl Counts {
+    /// The counts of this version, those left out that it can't meet.
+    fn rows(&self, version: usize) -> Vec<Row> {
+        let mut rows = Vec::new();
+        for question in 0..=QUESTIONS {
+            let answers = |service: Service| gives_answers(version, service) && service.takes_question() == (question > 0);
+            let asked = Question::try_from(question as u64).map_or(String::new(), |name| format!("{question} {name}, "));
+            let mut add = |name: &str, answered: &[Answered; SERVICES], may_be: fn(Service) -> bool| {
+                let counted =
+                    |service: Service| (answers(service) && may_be(service)).then(|| answered[service as usize][question]);
+                rows.push((format!("{asked}{name}"), Service::ALL.map(counted)));
+            };
+            add("done or ROBUST", &self.done, |_| true);
+            add("done or ROBUST with places", &self.with_places, Service::has_places);
+            add("OPEN", &self.open, Service::judges);
+        }
+        for number in numbers() {
+            let counted =
+                |service: Service| refuses_by(version, service, number).then(|| self.refused[service as usize][row(number)]);
+            rows.push((format!("{number:>2} {}", Reason::from(number)), Service::ALL.map(counted)));
+        }
+        rows.retain(|(_, counts)| counts.iter().any(Option::is_some));
+        rows
+    }
+}
+
+/// Whether the service answers something else than a refusal.
+fn gives_answers(version: usize, service: Service) -> bool {
+    (version < VERSIONS.len()) == (service != Service::Text)
+}
+
+/// Whether bytes that name this version, or none, may be refused so; the inputs have only one thing wrong.
+fn refuses_by(version: usize, service: Service, number: u64) -> bool {
+    let may_be = match (version < VERSIONS.len(), service) {
+        (named, Service::Text) => !named,
+        (true, _) => number != 4,
+        (false, _) => [1, 2, 4].contains(&number),
+    };
+    may_be && service.may_refuse_by(number)
+}
+
 impl fmt::Display for Tally {
     fn fmt(&self, out: &mut fmt::Formatter<'_>) -> fmt::Result {
-        let line = |out: &mut fmt::Formatter<'_>, name: &str, counts: &dyn Fn(Service) -> Option<usize>| {
-            write!(out, "{name:<62}")?;
-            for service in Service::ALL {
-                match counts(service) {
-                    Some(count) => write!(out, "{count:>11}")?,
-                    None => write!(out, "{:>11}", "-")?,
+        for (version, counts) in self.counts.iter().enumerate() {
+            write!(out, "{:<62}", format!("met, {}", NAMES[version]))?;
+            Service::ALL.iter().try_for_each(|service| write!(out, "{:>11}", format!("{service:?}")))?;
+            writeln!(out)?;
+            for (name, row) in counts.rows(version) {
+                write!(out, "{name:<62}")?;
+                for count in row {
+                    write!(out, "{:>11}", count.map_or("-".to_string(), |count| count.to_string()))?;
                 }
+                writeln!(out)?;
             }
-            writeln!(out)
-        };
-        write!(out, "{:<62}", "met")?;
-        for service in Service::ALL {
-            write!(out, "{:>11}", format!("{service:?}"))?;
-        }
-        writeln!(out)?;
-        line(out, "done or ROBUST", &|service| Some(self.done[service as usize]))?;
-        line(out, "the same with places", &|service| service.has_places().then_some(self.with_places[service as usize]))?;
-        line(out, "OPEN", &|service| service.judges().then_some(self.open[service as usize]))?;
-        for number in numbers() {
-            line(out, &format!("{number:>2} {}", Reason::from(number)), &|service| {
-                service.may_refuse_by(number).then_some(self.refused[service as usize][row(number)])
-            })?;
+            writeln!(out)?;
         }
         write!(out, "longest chain: {} pairs", self.longest_chain)
     }
@@ -107,10 +158,24 @@ impl fmt::Display for Tally {
 mod tests {
     use super::*;
 
+    /// The tally of one answer to a call with a listing of version 2.
     fn count(service: Service, kind: u64, first: u64) -> Tally {
         let mut tally = Tally::default();
-        tally.count(service, raw::Answer { kind, first, second: 0, count: 0 }, 0);
+        let call = Call::of_listing(5, b"ORD\x02\x00\x01\x00".to_vec(), vec![]);
+        tally.count(service, raw::Answer { kind, first, second: 0, count: 0 }, &call);
         tally
+    }
+
+    /// The services with a count other than 0, and its name.
+    fn counted(tally: &Tally) -> Vec<(usize, Service, String)> {
+        let mut counted = Vec::new();
+        for (version, counts) in tally.counts.iter().enumerate() {
+            for (name, row) in counts.rows(version) {
+                let services = Service::ALL.into_iter().zip(row).filter(|(_, count)| count.is_some_and(|count| count > 0));
+                counted.extend(services.map(|(service, _)| (version, service, name.clone())));
+            }
+        }
+        counted
     }
 
     #[test]
@@ -119,10 +184,36 @@ mod tests {
             let given: Vec<Service> = Service::ALL.into_iter().filter(|service| service.may_refuse_by(number)).collect();
             assert!(!given.is_empty(), "no service may refuse by {number}");
             for service in given {
-                let refused = count(service, raw::Answer::REFUSED, number).refused[service as usize];
-                assert_eq!(numbers().filter(|&other| refused[row(other)] == 1).collect::<Vec<_>>(), [number]);
+                let refused = count(service, raw::Answer::REFUSED, number);
+                let version = if service == Service::Text { 2 } else { 1 };
+                let row = (version, service, format!("{number:>2} {}", Reason::from(number)));
+                // a version that is one is not refused for it
+                assert_eq!(counted(&refused), if number == 4 { vec![] } else { vec![row] });
             }
         }
+    }
+
+    #[test]
+    fn each_answer_by_its_version_and_question() {
+        let row = |service, name: &str| vec![(1, service, name.to_string())];
+        assert_eq!(counted(&count(Service::Judge, raw::Answer::OPEN, 0)), row(Service::Judge, "5 sc-armv8, OPEN"));
+        assert_eq!(counted(&count(Service::Judge, raw::Answer::DONE, 0)), row(Service::Judge, "5 sc-armv8, done or ROBUST"));
+        assert_eq!(counted(&count(Service::Read, raw::Answer::DONE, 0)), row(Service::Read, "done or ROBUST"));
+        for (bytes, expected) in
+            [(&b"ORD\x01\x00"[..], 0), (b"ORD\x02\x00\x01", 1), (b"ORD\x02", 2), (b"ORD\x02\x01", 2), (b"ORD\x03\x00", 2)]
+        {
+            assert_eq!(version(bytes), expected, "{bytes:?}");
+        }
+    }
+
+    #[test]
+    fn names_what_was_not_met() {
+        let missing = count(Service::Judge, raw::Answer::OPEN, 0).never_met();
+        let is_missing = |name: &str| missing.iter().any(|missing| missing == name);
+        assert!(is_missing("version 1, Judge: 5 sc-armv8, OPEN") && !is_missing("version 2, Judge: 5 sc-armv8, OPEN"));
+        assert!(is_missing("version 2, Write:  9 kind over 4 in version 1, over 9 in version 2"));
+        assert!(is_missing("no such version, or a text, Read:  4 version not 1 or 2"));
+        assert!(is_missing("no such version, or a text, Text: 17 bad text"));
     }
 
     #[test]

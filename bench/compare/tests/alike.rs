@@ -14,10 +14,9 @@ fn main() {
     let mut tally = Tally::default();
     for number in 0..inputs {
         let call = Call::random(&mut random);
-        let places = call.map.iter().filter(|&&byte| byte == 1).count();
         for service in Service::ALL {
             match ask_both(service, &call, &mut random) {
-                Ok(answer) => tally.count(service, answer, places),
+                Ok(answer) => tally.count(service, answer, &call),
                 Err(difference) => panic!("call {number} of seed {seed}: {difference}"),
             }
         }

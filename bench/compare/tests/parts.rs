@@ -1,6 +1,6 @@
 //! Which routines may be judged apart: what people are told whose listing has too many nodes.
 
-use inputs::{bytes, nodes, random_listing, sketch, Random, Record, LAST_CELL, NONE, READ, RMW, ROUTINES};
+use inputs::{bytes, is_access, nodes, random_listing_of, sketch, version, Random, Record, LAST_CELL, NONE, ROUTINES, VERSIONS};
 use nyekushiro::{judge, read, Question};
 
 fn is_robust(question: Question, listing: &[u8]) -> bool {
@@ -20,9 +20,10 @@ fn groups_that_share_no_cell_and_know_their_locations_may_be_parted() {
     let mut random = Random::seeded(19);
     let mut met = [0; 2];
     for _ in 0..2000 {
+        let version = random.one_of(&VERSIONS);
         let mut part = |odd| {
             let nodes = random.below(20);
-            with_cells_of_its_own(&random_listing(&mut random, nodes), odd)
+            with_cells_of_its_own(&random_listing_of(&mut random, version, nodes), odd)
         };
         let (one, other) = (part(false), part(true));
         let Some(whole) = joined(&one, &other) else { continue };
@@ -38,14 +39,14 @@ fn groups_that_share_no_cell_and_know_their_locations_may_be_parted() {
 /// The same listing with odd or even locations alone, and none that is unknown.
 fn with_cells_of_its_own(listing: &[u8], odd: bool) -> Vec<u8> {
     let mut records = Record::all(listing);
-    for record in records.iter_mut().filter(|record| (READ..=RMW).contains(&record.kind)) {
+    for record in records.iter_mut().filter(|record| is_access(record.kind)) {
         let block = record.location & (LAST_CELL + 1);
         record.location = block | ((record.location & (LAST_CELL / 2)).max(1) * 2 + odd as u16);
     }
-    bytes(read(listing).unwrap().routines as u8, &records)
+    bytes(version(listing), read(listing).unwrap().routines as u8, &records)
 }
 
-/// The routines of both, unless these are more than a listing may have.
+/// The routines of both, which have the same version, unless these are more than a listing may have.
 fn joined(one: &[u8], other: &[u8]) -> Option<Vec<u8>> {
     let (routines, first) = (read(one).unwrap().routines as u8, nodes(one) as u8);
     let moved = |successor| if successor == NONE { NONE } else { first + successor };
@@ -57,5 +58,5 @@ fn joined(one: &[u8], other: &[u8]) -> Option<Vec<u8>> {
         ..record
     }));
     let routines = routines as usize + read(other).unwrap().routines;
-    (routines <= ROUTINES).then(|| bytes(routines as u8, &records))
+    (routines <= ROUTINES).then(|| bytes(version(one), routines as u8, &records))
 }

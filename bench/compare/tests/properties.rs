@@ -2,18 +2,29 @@
 
 use std::cell::Cell;
 
-use inputs::{bytes, nodes, random_listing, Random, Record, FENCE, NODES, NONE, PLAIN, READ, RMW, ROUTINES_AT, WRITE};
+use inputs::{
+    bytes, nodes, random_listing, short_routines, version, Random, Record, ACQUIRE, ACQUIRE_PC, FENCE, LOAD_FENCE, NODES, NONE,
+    PLAIN, READ, READS, RELEASE, RMW, ROUTINES_AT, STORE_FENCE, VERSION_AT, WRITE, WRITES,
+};
 use nyekushiro::{judge, judge_patch, propose, raw, read, write, Answer, Question, Reason};
 
-const LISTINGS: usize = 4000;
+const LISTINGS: usize = 3000;
 
 /// Calls `check` with random listings, each with a random map that `write` takes, and every question.
 fn on_random_listings(seed: u64, check: impl Fn(Question, &[u8], &[u8])) {
-    let mut random = Random::seeded(seed);
-    for _ in 0..LISTINGS {
+    let listing = |random: &mut Random| {
         let most = random.one_of(&[6, 12, 12, 40, NODES]);
         let nodes = random.below(most + 1);
-        let listing = random_listing(&mut random, nodes);
+        random_listing(random, nodes)
+    };
+    on_listings(seed, listing, check);
+}
+
+fn on_listings(seed: u64, made: impl Fn(&mut Random) -> Vec<u8>, check: impl Fn(Question, &[u8], &[u8])) {
+    let mut random = Random::seeded(seed);
+    for _ in 0..LISTINGS {
+        let listing = made(&mut random);
+        let nodes = nodes(&listing);
         let mut map = vec![0; nodes];
         for _ in 0..random.below((NODES - nodes).min(nodes) + 1) {
             map[random.below(nodes)] = 1;
@@ -87,6 +98,7 @@ fn written_listing_reads_back() {
         let out = write(listing, map).unwrap();
         let (old, new) = (read(listing).unwrap(), read(&out).unwrap());
         assert_eq!((new.nodes, new.routines), (old.nodes + places(map), old.routines));
+        assert_eq!(version(&out), version(listing));
         let mut fence = old.nodes;
         for (node, &place) in map.iter().enumerate() {
             let (before, after) = (Record::of(listing, node), Record::of(&out, node));
@@ -125,7 +137,8 @@ fn chain_is_a_chain() {
             let (end, next) = (records[pair.1], records[pairs[(at + 1) % pairs.len()].0]);
             assert!(overlap(&end, &next), "each joined to the next, and the last to the first");
             let somebody_writes = || writers(&records).any(|writer| overlap(writer, &end) && overlap(writer, &next));
-            assert!(end.kind != READ || next.kind != READ || somebody_writes(), "two reads by way of somebody who writes");
+            let two_reads = READS.contains(&end.kind) && READS.contains(&next.kind);
+            assert!(!two_reads || somebody_writes(), "two reads by way of somebody who writes");
         }
     });
 }
@@ -135,20 +148,112 @@ fn reads_of_what_nobody_writes_count_for_nothing() {
     let changed = Cell::new(0);
     on_random_listings(20, |question, listing, map| {
         let records = Record::all(listing);
-        let without = |record: &Record| match record.kind {
-            READ if !writers(&records).any(|writer| overlap(writer, record)) => Record { kind: PLAIN, location: 0, ..*record },
-            _ => *record,
-        };
-        let fewer = bytes(listing[ROUTINES_AT], &records.iter().map(without).collect::<Vec<_>>());
+        let fewer = with_records(listing, version(listing), |record| {
+            let somebody_writes = writers(&records).any(|writer| overlap(writer, record));
+            let counts = !READS.contains(&record.kind) || somebody_writes;
+            *record = if counts { *record } else { Record { kind: PLAIN, location: 0, ..*record } };
+        });
         assert_eq!(judge_patch(question, listing, map), judge_patch(question, &fewer, map));
         assert_eq!(propose(question, listing), propose(question, &fewer));
-        changed.set(changed.get() + (fewer != listing && !judge(question, listing).unwrap().is_robust()) as usize);
+        if fewer != listing && !judge(question, listing).unwrap().is_robust() {
+            count(&changed);
+        }
     });
     assert!(changed.get() > 1000, "too few open listings have such a read to mean anything: {}", changed.get());
 }
 
+/// Version 1 has no need of its own, and kinds 5 to 9 count there as others do.
+#[test]
+fn old_questions_know_no_kind_of_version_2() {
+    let met = [Cell::new(0), Cell::new(0)];
+    on_random_listings(21, |question, listing, map| {
+        let old = with_records(listing, 1, |record| match record.kind {
+            ACQUIRE | ACQUIRE_PC => record.kind = READ,
+            RELEASE => record.kind = WRITE,
+            LOAD_FENCE | STORE_FENCE => record.kind = PLAIN,
+            _ => {}
+        });
+        if old[VERSION_AT..] == listing[VERSION_AT..] || ARMV8.contains(&question) {
+            return;
+        }
+        let answer = judge_patch(question, listing, map).unwrap();
+        assert_eq!(answer, judge_patch(question, &old, map).unwrap());
+        assert_eq!(propose(question, listing), propose(question, &old));
+        count(&met[answer.is_robust() as usize]);
+    });
+    assert!(met.iter().all(|count| count.get() > 1000), "both answers are met: {met:?}");
+}
+
+/// What version 1 lists ARMv8 keeps in order as ARMv7 does; and version 2 changes nothing of it but its version.
+#[test]
+fn version_1_kinds_are_answered_on_armv8_as_on_armv7_in_either_version() {
+    let met = [Cell::new(0), Cell::new(0)];
+    on_random_listings(22, |question, listing, map| {
+        if Record::all(listing).iter().any(|record| record.kind > FENCE) {
+            return;
+        }
+        let as_version = |version| with_records(listing, version, |_| {});
+        let alike = match question {
+            Question::ScOnArmv8 => Question::ScOnArmv7,
+            Question::X86OnArmv8 => Question::X86OnArmv7,
+            question => question,
+        };
+        let answer = judge_patch(question, &as_version(1), map).unwrap();
+        assert_eq!(answer, judge_patch(alike, &as_version(1), map).unwrap());
+        assert_eq!(answer, judge_patch(question, &as_version(2), map).unwrap());
+        assert_eq!(propose(question, &as_version(1)), propose(alike, &as_version(2)));
+        count(&met[answer.is_robust() as usize]);
+    });
+    assert!(met.iter().all(|count| count.get() > 1000), "both answers are met: {met:?}");
+}
+
+/// Under 5 and 6 nothing robust opens where accesses are given more order, and fences more force.
+#[test]
+fn stronger_kinds_open_nothing_on_armv8() {
+    let stronger = [
+        (READ, ACQUIRE_PC),
+        (ACQUIRE_PC, ACQUIRE),
+        (WRITE, RELEASE),
+        (PLAIN, LOAD_FENCE),
+        (PLAIN, STORE_FENCE),
+        (LOAD_FENCE, FENCE),
+        (STORE_FENCE, FENCE),
+    ];
+    let met = stronger.map(|_| [Cell::new(0), Cell::new(0)]);
+    let listing = |random: &mut Random| short_routines(random, 2);
+    on_listings(23, listing, |question, listing, _| {
+        if !ARMV8.contains(&question) {
+            return;
+        }
+        let before = judge(question, listing).unwrap().is_robust();
+        for ((weak, strong), met) in stronger.iter().zip(&met) {
+            let changed =
+                with_records(listing, 2, |record| record.kind = if record.kind == *weak { *strong } else { record.kind });
+            let after = judge(question, &changed).unwrap().is_robust();
+            assert!(after || !before, "{weak} to {strong} opens {question} {listing:?}");
+            if changed != listing {
+                count(&met[(before == after) as usize]);
+            }
+        }
+    });
+    assert!(met.iter().flatten().all(|count| count.get() > 0), "each change closes some listings, and leaves some: {met:?}");
+}
+
+const ARMV8: [Question; 2] = [Question::ScOnArmv8, Question::X86OnArmv8];
+
+fn count(cell: &Cell<usize>) {
+    cell.set(cell.get() + 1);
+}
+
+/// The listing in this version, each of its records changed.
+fn with_records(listing: &[u8], version: u8, change: impl Fn(&mut Record)) -> Vec<u8> {
+    let mut records = Record::all(listing);
+    records.iter_mut().for_each(change);
+    bytes(version, listing[ROUTINES_AT], &records)
+}
+
 fn writers(records: &[Record]) -> impl Iterator<Item = &Record> {
-    records.iter().filter(|record| [WRITE, RMW].contains(&record.kind))
+    records.iter().filter(|record| WRITES.contains(&record.kind) || record.kind == RMW)
 }
 
 fn overlap(one: &Record, other: &Record) -> bool {

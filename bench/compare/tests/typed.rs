@@ -1,7 +1,7 @@
 //! Random texts, each as it is, damaged at every word and cut off at every byte: the proved answer and every lent byte are those of
 //! the straightforward one.
 //!
-//! NYEKUSHIRO_INPUTS says how many texts, NYEKUSHIRO_SEED where the numbers by chance start.
+//! NYEKUSHIRO_TEXTS or NYEKUSHIRO_INPUTS says how many texts, NYEKUSHIRO_SEED where the numbers by chance start.
 
 use std::thread;
 
@@ -29,7 +29,8 @@ const DAMAGED: usize = 4;
 const CUT_OFF: usize = 5;
 
 fn main() {
-    let (texts, seed) = (setting("NYEKUSHIRO_INPUTS", TEXTS), setting("NYEKUSHIRO_SEED", SEED));
+    let texts = setting("NYEKUSHIRO_TEXTS", setting("NYEKUSHIRO_INPUTS", TEXTS));
+    let seed = setting("NYEKUSHIRO_SEED", SEED);
     let counts = ask_all(texts, seed);
     let asked = counts.total();
     println!("{texts} random texts, {asked} with those damaged at each word and cut off at each byte: all alike\n{counts}");

@@ -68,7 +68,7 @@ fn parts_come_one_after_another() {
                 Record { routine, first: moved(record.first), second: moved(record.second), ..record }
             }));
         }
-        assert_eq!(listing(words), bytes(parts(words).len() as u8, &records));
+        assert_eq!(listing(words), bytes(1, parts(words).len() as u8, &records));
     });
 }
 

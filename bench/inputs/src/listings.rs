@@ -1,6 +1,9 @@
 //! Listings by chance: good ones, of every shape.
 
-use crate::numbers::{FENCE, LAST_CELL, NONE, PLAIN, READ, RMW, ROUTINES, WRITE};
+use crate::numbers::{
+    is_access, ACQUIRE, ACQUIRE_PC, FENCE, LAST_CELL, LOAD_FENCE, NONE, PLAIN, READ, RELEASE, RMW, ROUTINES, STORE_FENCE,
+    VERSIONS, WRITE,
+};
 use crate::random::Random;
 use crate::sketch::{bytes, Record};
 
@@ -29,57 +32,135 @@ struct Palette {
 /// The kinds of a listing's nodes, each as often as it stands there.
 type Kinds = &'static [u8];
 
-const MIXED: &[Kinds] = &[
-    &[READ, WRITE],
-    &[READ, WRITE, READ, WRITE, RMW, FENCE, PLAIN],
-    &[READ, WRITE, RMW, RMW],
-    &[READ, WRITE, FENCE, FENCE, PLAIN],
-    &[WRITE, READ, READ, READ, READ, FENCE, RMW],
-];
+/// Which kinds the listings of a version have.
+struct Choices {
+    version: u8,
+    mixed: &'static [Kinds],
+    /// cells are read that few write, or nobody does
+    few_writers: &'static [Kinds],
+    /// the ends of a ring's pieces, and what may stand between them
+    ends: &'static [[u8; 2]],
+    between: Kinds,
+    /// the accesses of short routines that hand something over
+    accesses: Kinds,
+}
 
-/// Cells are read that few write, or nobody does.
-const FEW_WRITERS: &[Kinds] =
-    &[&[READ, READ, READ, READ, READ, WRITE], &[READ, READ, READ, READ, READ, RMW], &[READ, READ, READ, PLAIN, FENCE]];
+const CHOICES: [Choices; VERSIONS.len()] = [
+    Choices {
+        version: 1,
+        mixed: &[
+            &[READ, WRITE],
+            &[READ, WRITE, READ, WRITE, RMW, FENCE, PLAIN],
+            &[READ, WRITE, RMW, RMW],
+            &[READ, WRITE, FENCE, FENCE, PLAIN],
+            &[WRITE, READ, READ, READ, READ, FENCE, RMW],
+        ],
+        few_writers: &[
+            &[READ, READ, READ, READ, READ, WRITE],
+            &[READ, READ, READ, READ, READ, RMW],
+            &[READ, READ, READ, PLAIN, FENCE],
+        ],
+        ends: &[[READ, WRITE], [WRITE, READ], [WRITE, WRITE], [RMW, READ]],
+        between: &[PLAIN, FENCE],
+        accesses: &[READ, READ, WRITE, WRITE, RMW],
+    },
+    Choices {
+        version: 2,
+        mixed: &[
+            &[READ, WRITE, ACQUIRE, RELEASE],
+            &[WRITE, ACQUIRE, RELEASE, ACQUIRE_PC, LOAD_FENCE],
+            &[READ, WRITE, READ, WRITE, LOAD_FENCE, STORE_FENCE],
+            &[WRITE, RELEASE, ACQUIRE, STORE_FENCE],
+            &[READ, RELEASE, ACQUIRE, LOAD_FENCE],
+            &[RELEASE, ACQUIRE, ACQUIRE_PC, READ, RMW],
+            &[RMW, RELEASE, ACQUIRE, LOAD_FENCE, STORE_FENCE],
+            &[PLAIN, READ, WRITE, RMW, FENCE, ACQUIRE, RELEASE, LOAD_FENCE, STORE_FENCE, ACQUIRE_PC],
+            &[READ, WRITE, RMW, FENCE],
+        ],
+        few_writers: &[
+            &[READ, ACQUIRE, ACQUIRE_PC, READ, ACQUIRE, RELEASE],
+            &[READ, READ, ACQUIRE, READ, ACQUIRE_PC, WRITE],
+            &[READ, ACQUIRE_PC, READ, ACQUIRE, READ, RMW],
+            &[READ, ACQUIRE, ACQUIRE_PC, PLAIN, LOAD_FENCE, STORE_FENCE],
+        ],
+        ends: &[[RELEASE, ACQUIRE_PC], [RELEASE, ACQUIRE], [WRITE, ACQUIRE], [RELEASE, WRITE], [READ, WRITE], [ACQUIRE, READ]],
+        between: &[PLAIN, FENCE, LOAD_FENCE, STORE_FENCE],
+        accesses: &[READ, WRITE, RMW, ACQUIRE, ACQUIRE, RELEASE, RELEASE, ACQUIRE_PC],
+    },
+];
 
 /// How many cells a listing has.
 const CELLS: &[usize] = &[1, 2, 3, 5, 12, 200];
 
-/// A good listing with this many nodes.
+/// A good listing with this many nodes, of either version.
 pub fn random_listing(random: &mut Random, nodes: usize) -> Vec<u8> {
+    let version = random.one_of(&VERSIONS);
+    random_listing_of(random, version, nodes)
+}
+
+/// A good listing of this version with this many nodes.
+pub fn random_listing_of(random: &mut Random, version: u8, nodes: usize) -> Vec<u8> {
+    let choices = Choices::of(version);
     if random.once_in(6) {
-        return ring(random, nodes);
+        return ring(random, choices, nodes);
     }
     if random.once_in(12) {
-        return lonely_line(random, nodes);
+        return lonely_line(random, choices, nodes);
+    }
+    if nodes >= 4 && random.once_in(6) {
+        return handed_over(random, choices, nodes);
     }
     let most = random.one_of(&[4, 4, 4, ROUTINES]);
     let routines = random.from_to(1, most);
-    of_any_links(random, nodes, routines, CELLS)
+    of_any_links(random, choices, nodes, routines, CELLS)
 }
 
-/// A good listing of at most five nodes and four accesses, for the search through everything.
+/// A good listing of this version in which two or three short routines hand something over: on what stands between two accesses, and on
+/// their kinds, more hangs than in others.
+pub fn short_routines(random: &mut Random, version: u8) -> Vec<u8> {
+    let nodes = random.from_to(4, 12);
+    handed_over(random, Choices::of(version), nodes)
+}
+
+/// A good listing of at most five nodes and four accesses, of either version, for the search through everything.
 pub fn tiny_listing(random: &mut Random) -> Vec<u8> {
     loop {
+        let choices = Choices::of(random.one_of(&VERSIONS));
         let (nodes, routines) = (random.from_to(1, 5), random.from_to(1, 2));
-        let listing = of_any_links(random, nodes, routines, &[1, 2, 3, 5]);
-        if Record::all(&listing).iter().filter(|record| (READ..=RMW).contains(&record.kind)).count() <= 4 {
+        let listing = of_any_links(random, choices, nodes, routines, &[1, 2, 3, 5]);
+        if Record::all(&listing).iter().filter(|record| is_access(record.kind)).count() <= 4 {
             return listing;
         }
     }
 }
 
-/// A good listing of four routines with loops and every kind.
-pub fn woven(random: &mut Random, nodes: usize) -> Vec<u8> {
-    listing(random, nodes, 4, Links::Loops, CELLS, MIXED)
+/// A good listing of four routines with loops and every kind of its version.
+pub fn woven(random: &mut Random, version: u8, nodes: usize) -> Vec<u8> {
+    let choices = Choices::of(version);
+    listing(random, choices, nodes, 4, Links::Loops, CELLS, choices.mixed)
 }
 
-fn of_any_links(random: &mut Random, nodes: usize, routines: usize, cells: &[usize]) -> Vec<u8> {
+impl Choices {
+    fn of(version: u8) -> &'static Choices {
+        CHOICES.iter().find(|choices| choices.version == version).expect("there is such a version")
+    }
+}
+
+fn of_any_links(random: &mut Random, choices: &Choices, nodes: usize, routines: usize, cells: &[usize]) -> Vec<u8> {
     let links = random.one_of(&[Links::Line, Links::Branches, Links::Loops, Links::Anywhere, Links::Pieces]);
-    let kinds = if random.once_in(4) { FEW_WRITERS } else { MIXED };
-    listing(random, nodes, routines, links, cells, kinds)
+    let kinds = if random.once_in(4) { choices.few_writers } else { choices.mixed };
+    listing(random, choices, nodes, routines, links, cells, kinds)
 }
 
-fn listing(random: &mut Random, nodes: usize, routines: usize, links: Links, cells: &[usize], kinds: &[Kinds]) -> Vec<u8> {
+fn listing(
+    random: &mut Random,
+    choices: &Choices,
+    nodes: usize,
+    routines: usize,
+    links: Links,
+    cells: &[usize],
+    kinds: &[Kinds],
+) -> Vec<u8> {
     let owners = owners(random, nodes, routines);
     let palette = Palette {
         cells: random.one_of(cells),
@@ -92,11 +173,11 @@ fn listing(random: &mut Random, nodes: usize, routines: usize, links: Links, cel
             let own: Vec<u8> = (0..nodes).filter(|&other| owners[other] == owners[node]).map(|other| other as u8).collect();
             let (first, second) = successors(random, links, &own, node as u8);
             let kind = random.one_of(kinds);
-            let location = if kind == PLAIN || kind == FENCE { 0 } else { palette.location(random) };
+            let location = if is_access(kind) { palette.location(random) } else { 0 };
             Record { routine: owners[node], kind, location, first, second }
         })
         .collect();
-    bytes(routines as u8, &records)
+    bytes(choices.version, routines as u8, &records)
 }
 
 /// A routine for each node: one after another, or mixed.
@@ -148,14 +229,14 @@ fn in_order(one: Option<u8>, other: Option<u8>) -> (u8, u8) {
 }
 
 /// Pieces of two or three nodes that lead from one cell to the next and around, so that the only chain has all of them.
-pub fn ring(random: &mut Random, nodes: usize) -> Vec<u8> {
+fn ring(random: &mut Random, choices: &Choices, nodes: usize) -> Vec<u8> {
     let size = random.from_to(2, 3);
     let (pieces, routines) = (nodes / size, random.from_to(1, ROUTINES));
     let mut order: Vec<usize> = (0..pieces).collect();
     for at in (1..pieces).rev() {
         order.swap(at, random.below(at + 1));
     }
-    let (fenced, kinds) = (random.once_in(4), random.one_of(&[[READ, WRITE], [WRITE, READ], [WRITE, WRITE], [RMW, READ]]));
+    let (fenced, ends) = (random.once_in(4), random.one_of(choices.ends));
     let mut records = Vec::new();
     for (piece, &cell) in order.iter().enumerate() {
         let routine = (piece * routines / pieces.max(1)) as u8;
@@ -163,9 +244,9 @@ pub fn ring(random: &mut Random, nodes: usize) -> Vec<u8> {
             let number = records.len() as u8;
             let first = if at + 1 < size { number + 1 } else { NONE };
             let (kind, location) = match at {
-                0 => (kinds[0], 1 + cell),
-                _ if at + 1 == size => (kinds[1], 1 + (cell + 1) % pieces),
-                _ => (if fenced && random.once_in(2) { FENCE } else { PLAIN }, 0),
+                0 => (ends[0], 1 + cell),
+                _ if at + 1 == size => (ends[1], 1 + (cell + 1) % pieces),
+                _ => (if fenced { random.one_of(choices.between) } else { PLAIN }, 0),
             };
             records.push(Record { routine, kind, location: location as u16, first, second: NONE });
         }
@@ -173,17 +254,46 @@ pub fn ring(random: &mut Random, nodes: usize) -> Vec<u8> {
     while records.len() < nodes {
         records.push(Record { routine: 0, kind: PLAIN, location: 0, first: NONE, second: NONE });
     }
-    bytes(routines as u8, &records)
+    bytes(choices.version, routines as u8, &records)
+}
+
+/// Two or three lines that lead from one cell to the next and around, each of two accesses with at most two nodes between them, which
+/// the first may lead past; and plain nodes where more are asked for.
+fn handed_over(random: &mut Random, choices: &Choices, nodes: usize) -> Vec<u8> {
+    let lines = random.from_to(2, 3).min(nodes / 2);
+    let mut records = Vec::new();
+    for line in 0..lines {
+        let others = 2 * (lines - line - 1);
+        let between = random.below(3).min(nodes - others - 2 - records.len());
+        let (first, last) = (records.len() as u8, (records.len() + between) as u8 + 1);
+        for number in first..=last {
+            let (kind, location) = match number {
+                _ if number == first => (random.one_of(choices.accesses), 1 + line),
+                _ if number == last => (random.one_of(choices.accesses), 1 + (line + 1) % lines),
+                _ if random.once_in(6) => (RMW, random.from_to(1, lines + 1)),
+                _ if random.once_in(6) => (random.one_of(choices.accesses), random.from_to(1, lines + 1)),
+                _ => (random.one_of(choices.between), 0),
+            };
+            let leads_past = number == first && between > 0 && random.once_in(4);
+            let (first, second) = if number == last { (NONE, NONE) } else { (number + 1, if leads_past { last } else { NONE }) };
+            records.push(Record { routine: line as u8, kind, location: location as u16, first, second });
+        }
+    }
+    while records.len() < nodes {
+        records.push(Record { routine: 0, kind: PLAIN, location: 0, first: NONE, second: NONE });
+    }
+    bytes(choices.version, lines as u8, &records)
 }
 
 /// One line of accesses of which few meet: pairs without end, and hardly a chain.
-pub fn lonely_line(random: &mut Random, nodes: usize) -> Vec<u8> {
+fn lonely_line(random: &mut Random, choices: &Choices, nodes: usize) -> Vec<u8> {
+    let kinds: Vec<u8> = random.one_of(choices.mixed).iter().copied().filter(|&kind| is_access(kind)).collect();
     let records: Vec<Record> = (0..nodes)
         .map(|node| {
             let location = if random.once_in(40) { random.below(4) } else { 1 + node } as u16;
             let first = if node + 1 < nodes { node as u8 + 1 } else { NONE };
-            Record { routine: 0, kind: random.one_of(&[READ, WRITE, WRITE, RMW]), location, first, second: NONE }
+            Record { routine: 0, kind: random.one_of(&kinds), location, first, second: NONE }
         })
         .collect();
-    bytes(1, &records)
+    bytes(choices.version, 1, &records)
 }

@@ -21,8 +21,32 @@ pub const READ: u8 = 1;
 pub const WRITE: u8 = 2;
 pub const RMW: u8 = 3;
 pub const FENCE: u8 = 4;
-/// How many kinds there are.
-pub const KINDS: u8 = 5;
+/// "Version 2 adds":
+pub const ACQUIRE: u8 = 5;
+pub const RELEASE: u8 = 6;
+pub const LOAD_FENCE: u8 = 7;
+pub const STORE_FENCE: u8 = 8;
+pub const ACQUIRE_PC: u8 = 9;
+
+/// The versions that a listing may have.
+pub const VERSIONS: [u8; 2] = [1, 2];
+
+/// How many kinds a version has.
+pub const fn kinds(version: u8) -> u8 {
+    if version == 1 {
+        5
+    } else {
+        10
+    }
+}
+
+/// "Kinds 1, 5 and 9 count as reads, 2 and 6 as writes, 3 as an RMW, which is neither."
+pub const READS: [u8; 3] = [READ, ACQUIRE, ACQUIRE_PC];
+pub const WRITES: [u8; 2] = [WRITE, RELEASE];
+
+pub fn is_access(kind: u8) -> bool {
+    READS.contains(&kind) || WRITES.contains(&kind) || kind == RMW
+}
 
 /// "Successor 255 means none."
 pub const NONE: u8 = 255;
@@ -30,7 +54,7 @@ pub const NONE: u8 = 255;
 pub const LAST_CELL: u16 = 32767;
 
 /// How many questions there are; they are numbered from 1.
-pub const QUESTIONS: usize = 4;
+pub const QUESTIONS: usize = 6;
 
 /// "The chain buffer must have 258 bytes."
 pub const CHAIN_BUFFER: usize = 258;
@@ -38,6 +62,11 @@ pub const CHAIN_BUFFER: usize = 258;
 /// The bytes of a listing with this many nodes; the record of node `nodes` would start there.
 pub const fn length(nodes: usize) -> usize {
     HEADING + RECORD * nodes
+}
+
+/// The version, as the lower of its two bytes says it.
+pub fn version(listing: &[u8]) -> u8 {
+    listing[VERSION_AT]
 }
 
 /// N, as the heading says it.

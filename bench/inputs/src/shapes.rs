@@ -9,7 +9,7 @@ use crate::sketch::{bytes, Record};
 pub type Shape = (&'static str, fn(&mut Random, usize) -> Vec<u8>);
 
 /// Every shape asks something else of a judge.
-pub const SHAPES: [Shape; 5] = [
+pub const SHAPES: [Shape; 6] = [
     // as many straight routines as can be over few cells: most pairs fail, the first at once
     ("lines", |random, nodes| lines(random, nodes, false)),
     // the same with a fence after each access: no pair fails, and all must be looked at
@@ -19,7 +19,9 @@ pub const SHAPES: [Shape; 5] = [
     // one straight routine in which no two accesses meet: every pair wants order, and none lies on a chain
     ("lonely", lonely),
     // branches, loops, fences, RMWs and unknown locations
-    ("woven", woven),
+    ("woven", |random, nodes| woven(random, 1, nodes)),
+    // the same with acquire and release accesses, load and store fences: what is a barrier hangs on a pair's ends
+    ("version 2 woven", |random, nodes| woven(random, 2, nodes)),
 ];
 
 fn lines(random: &mut Random, nodes: usize, fenced: bool) -> Vec<u8> {
@@ -37,7 +39,7 @@ fn lines(random: &mut Random, nodes: usize, fenced: bool) -> Vec<u8> {
             }
         })
         .collect();
-    bytes(ROUTINES as u8, &records)
+    bytes(1, ROUTINES as u8, &records)
 }
 
 fn ring_of_pieces(nodes: usize) -> Vec<u8> {
@@ -48,7 +50,7 @@ fn ring_of_pieces(nodes: usize) -> Vec<u8> {
             Record { routine: 0, kind, location: cell as u16, first, second: NONE }
         })
         .collect();
-    bytes(1, &records)
+    bytes(1, 1, &records)
 }
 
 fn lonely(random: &mut Random, nodes: usize) -> Vec<u8> {
@@ -58,5 +60,5 @@ fn lonely(random: &mut Random, nodes: usize) -> Vec<u8> {
             Record { routine: 0, kind: random.one_of(&[READ, WRITE, RMW]), location: node as u16 + 1, first, second: NONE }
         })
         .collect();
-    bytes(1, &records)
+    bytes(1, 1, &records)
 }

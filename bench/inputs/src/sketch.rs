@@ -1,6 +1,6 @@
 //! Listings by hand.
 
-use crate::numbers::{length, nodes, NONE};
+use crate::numbers::{kinds, length, nodes, NONE, VERSIONS};
 
 /// A record of a listing, good or bad.
 #[derive(Clone, Copy, Debug, PartialEq, Eq)]
@@ -26,9 +26,9 @@ impl Record {
     }
 }
 
-/// The bytes of a listing with these records.
-pub fn bytes(routines: u8, records: &[Record]) -> Vec<u8> {
-    let mut bytes = vec![0x4F, 0x52, 0x44, 1, 0, routines, records.len() as u8];
+/// The bytes of a listing of this version with these records.
+pub fn bytes(version: u8, routines: u8, records: &[Record]) -> Vec<u8> {
+    let mut bytes = vec![0x4F, 0x52, 0x44, version, 0, routines, records.len() as u8];
     for record in records {
         let [low, high] = record.location.to_le_bytes();
         bytes.extend([record.routine, record.kind, low, high, record.first, record.second]);
@@ -36,12 +36,17 @@ pub fn bytes(routines: u8, records: &[Record]) -> Vec<u8> {
     bytes
 }
 
-/// A listing from words: `p`, `r`, `w`, `u` (RMW) or `f`, then the location of an access; `;` ends a routine.
+/// The letters of a sketch, by kind.
+const LETTERS: &str = "prwufaldsq";
+
+/// A listing from words: `p`, `r`, `w`, `u` (RMW), `f`, `a` (acquire), `l` (release), `d` (load fence), `s` (store fence) or `q`
+/// (acquirePC), then the location of an access; `;` ends a routine. Its version is the first that has all of its kinds.
 ///
 /// Arrows go to the next node of the routine unless said by `>first` or `>first,second`.
 ///
 /// ```
 /// assert_eq!(inputs::sketch("w1>1 r2>0"), b"ORD\x01\x00\x01\x02\x00\x02\x01\x00\x01\xff\x00\x01\x02\x00\x00\xff");
+/// assert_eq!(inputs::sketch("l1 d"), b"ORD\x02\x00\x01\x02\x00\x06\x01\x00\x01\xff\x00\x07\x00\x00\xff\xff");
 /// ```
 pub fn sketch(text: &str) -> Vec<u8> {
     let routines: Vec<Vec<&str>> = text.split(';').map(|routine| routine.split_whitespace().collect()).collect();
@@ -52,12 +57,14 @@ pub fn sketch(text: &str) -> Vec<u8> {
             records.push(record(routine as u8, word, next));
         }
     }
-    bytes(routines.len() as u8, &records)
+    let has_all = |version: &u8| records.iter().all(|record: &Record| record.kind < kinds(*version));
+    let version = VERSIONS.into_iter().find(has_all).expect("the last version has every kind");
+    bytes(version, routines.len() as u8, &records)
 }
 
 fn record(routine: u8, word: &str, next: u8) -> Record {
     let (node, arrows) = word.split_once('>').unwrap_or((word, ""));
-    let kind = "prwuf".find(&node[..1]).expect("a word starts with p, r, w, u or f") as u8;
+    let kind = LETTERS.find(&node[..1]).expect("a word starts with one of the letters") as u8;
     let location = if node.len() > 1 { node[1..].parse().expect("a location is a number") } else { 0 };
     let mut arrows =
         arrows.split(',').filter(|arrow| !arrow.is_empty()).map(|arrow| arrow.parse().expect("an arrow goes to a node"));

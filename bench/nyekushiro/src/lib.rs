@@ -58,6 +58,11 @@ pub fn read(listing: &[u8]) -> Result<Size, Refusal> {
 /// ```
 /// use nyekushiro::{judge, Answer, Question};
 /// assert_eq!(judge(Question::ScOnArmv7, b"ORD\x01\x00\x01\x00")?, Answer::Robust);
+///
+/// // 0 write x, 1 release y; 2 acquire y, 3 read x: in order on ARMv8, and not on ARMv7
+/// let listing = b"ORD\x02\x00\x02\x04\x00\x02\x01\x00\x01\xff\x00\x06\x02\x00\xff\xff\x01\x05\x02\x00\x03\xff\x01\x01\x01\x00\xff\xff";
+/// assert_eq!(judge(Question::ScOnArmv8, listing)?, Answer::Robust);
+/// assert_eq!(judge(Question::ScOnArmv7, listing)?.to_string(), "OPEN 0 1 2 0-1 2-3");
 /// # Ok::<(), nyekushiro::Refusal>(())
 /// ```
 pub fn judge(question: Question, listing: &[u8]) -> Result<Answer, Refusal> {
@@ -94,7 +99,7 @@ pub fn propose(question: Question, listing: &[u8]) -> Result<Map, Refusal> {
     Ok(Map::of(&map[..read(listing)?.nodes]))
 }
 
-/// The bytes of the listing with a fence after every node whose byte of `map` is 1.
+/// The bytes of the listing with a fence, kind 4, after every node whose byte of `map` is 1. Its version stays.
 ///
 /// ```
 /// // a write alone, and a fence after it
@@ -108,7 +113,7 @@ pub fn write(listing: &[u8], map: &[u8]) -> Result<Vec<u8>, Refusal> {
     Ok(out[..answer.count as usize].to_vec())
 }
 
-/// The listing of a typed text: parts `routine { block }`, whose items are `r`, `w` or `u` and a location, `f`, `loop { block }` and
+/// The version 1 listing of a typed text: parts `routine { block }`, whose items are `r`, `w` or `u` and a location, `f`, `loop { block }` and
 /// `either { block } { block }` (docs/LISTING.md).
 ///
 /// ```

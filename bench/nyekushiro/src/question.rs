@@ -1,9 +1,9 @@
-//! The four questions.
+//! The six questions.
 
 use std::fmt;
 use std::str::FromStr;
 
-/// What can be asked of a listing. It is read from its number or its name, and its `Display` is its name.
+/// What can be asked of a listing, of either version. It is read from its number or its name, and its `Display` is its name.
 ///
 /// ```
 /// use nyekushiro::Question;
@@ -24,11 +24,22 @@ pub enum Question {
     X86OnArmv7 = 3,
     /// Does it behave on ARMv7 as it does on ARMv8?
     Armv8OnArmv7 = 4,
+    /// Does it behave on ARMv8 as if all steps came one after another, each thread's in its order?
+    ScOnArmv8 = 5,
+    /// Does it behave on ARMv8 as it does on x86?
+    X86OnArmv8 = 6,
 }
 
 impl Question {
     /// Every question, by number.
-    pub const ALL: [Question; 4] = [Question::ScOnX86, Question::ScOnArmv7, Question::X86OnArmv7, Question::Armv8OnArmv7];
+    pub const ALL: [Question; 6] = [
+        Question::ScOnX86,
+        Question::ScOnArmv7,
+        Question::X86OnArmv7,
+        Question::Armv8OnArmv7,
+        Question::ScOnArmv8,
+        Question::X86OnArmv8,
+    ];
 
     fn name(self) -> &'static str {
         match self {
@@ -36,6 +47,8 @@ impl Question {
             Question::ScOnArmv7 => "sc-armv7",
             Question::X86OnArmv7 => "x86-armv7",
             Question::Armv8OnArmv7 => "armv8-armv7",
+            Question::ScOnArmv8 => "sc-armv8",
+            Question::X86OnArmv8 => "x86-armv8",
         }
     }
 }
@@ -73,8 +86,8 @@ impl fmt::Display for Question {
 ///
 /// ```
 /// assert_eq!(
-///     nyekushiro::Question::try_from(5).unwrap_err().to_string(),
-///     "there is no question '5': ask 1 or sc-x86, 2 or sc-armv7, 3 or x86-armv7, 4 or armv8-armv7"
+///     nyekushiro::Question::try_from(7).unwrap_err().to_string(),
+///     "there is no question '7': ask 1 or sc-x86, 2 or sc-armv7, 3 or x86-armv7, 4 or armv8-armv7, 5 or sc-armv8, 6 or x86-armv8"
 /// );
 /// ```
 #[derive(Clone, Debug, PartialEq, Eq)]
@@ -105,10 +118,10 @@ mod tests {
 
     #[test]
     fn is_read_from_nothing_else() {
-        for asked in ["", "0", "5", "01", "+1", " 1", "1 ", "SC-X86", "sc", "sc-x86 ", "SC on x86", "257"] {
+        for asked in ["", "0", "7", "01", "+1", " 1", "1 ", "SC-X86", "sc", "sc-x86 ", "SC on x86", "257"] {
             assert_eq!(asked.parse::<Question>(), Err(UnknownQuestion(asked.to_string())));
         }
-        for number in [0, 5, 257, u64::MAX] {
+        for number in [0, 7, 257, u64::MAX] {
             assert_eq!(Question::try_from(number), Err(UnknownQuestion(number.to_string())));
         }
     }

@@ -5,8 +5,8 @@
 //! ```
 //! use nyekushiro::raw;
 //! let mut chain = [7; raw::CHAIN_BUFFER];
-//! let refusal = raw::judge(5, b"ORD\x01\x00\x01\x00", &mut chain).refusal().unwrap();
-//! assert_eq!(refusal.to_string(), "question not 1 to 4 (refusal 1)");
+//! let refusal = raw::judge(7, b"ORD\x01\x00\x01\x00", &mut chain).refusal().unwrap();
+//! assert_eq!(refusal.to_string(), "question not 1 to 6 (refusal 1)");
 //! assert_eq!(chain, [7; raw::CHAIN_BUFFER]);
 //! ```
 

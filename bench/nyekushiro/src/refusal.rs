@@ -4,16 +4,16 @@ use std::fmt;
 
 use crate::raw;
 
-/// Why nothing was answered, and where in the input that is. Its `Display` says both, as `kind over 4 (refusal 9, node 2)`.
+/// Why nothing was answered, and where in the input that is. Its `Display` says both, as `map byte not 0 or 1 (refusal 14, index 3)`.
 ///
 /// ```
 /// use nyekushiro::{Place, Reason};
-/// // two plain nodes and one of kind 5
+/// // two plain nodes and one of kind 5, which version 1 does not have
 /// let listing = b"ORD\x01\x00\x01\x03\x00\x00\x00\x00\xff\xff\x00\x00\x00\x00\xff\xff\x00\x05\x00\x00\xff\xff";
 /// let refusal = nyekushiro::read(listing).unwrap_err();
 /// assert_eq!((refusal.reason, refusal.place), (Reason::Kind, Some(Place::Node(2))));
-/// assert_eq!(refusal.to_string(), "kind over 4 (refusal 9, node 2)");
-/// assert_eq!(refusal.advice(), "use 0 plain, 1 read, 2 write, 3 RMW or 4 fence");
+/// assert_eq!(refusal.to_string(), "kind over 4 in version 1, over 9 in version 2 (refusal 9, node 2)");
+/// assert!(refusal.advice().starts_with("use 0 plain, 1 read, 2 write, 3 RMW or 4 fence; in version 2 also 5 acquire"));
 /// ```
 #[derive(Clone, Copy, Debug, PartialEq, Eq)]
 pub struct Refusal {
@@ -109,8 +109,8 @@ macro_rules! table {
         ///
         /// ```
         /// use nyekushiro::Reason;
-        /// assert_eq!((Reason::Kind.number(), Reason::Kind.to_string().as_str()), (9, "kind over 4"));
-        /// assert_eq!((Reason::from(9), Reason::from(99)), (Reason::Kind, Reason::Unknown(99)));
+        /// assert_eq!((Reason::Nodes.number(), Reason::Nodes.to_string().as_str()), (6, "N over 128"));
+        /// assert_eq!((Reason::from(6), Reason::from(99)), (Reason::Nodes, Reason::Unknown(99)));
         /// ```
         #[derive(Clone, Copy, Debug, PartialEq, Eq)]
         #[non_exhaustive]
@@ -158,14 +158,14 @@ macro_rules! make_room {
 }
 
 table! {
-    1 Question nowhere "question not 1 to 4"
-        "ask 1 SC on x86, 2 SC on ARMv7, 3 x86 on ARMv7 or 4 ARMv8 on ARMv7";
+    1 Question nowhere "question not 1 to 6"
+        "ask 1 SC on x86, 2 SC on ARMv7, 3 x86 on ARMv7, 4 ARMv8 on ARMv7, 5 SC on ARMv8 or 6 x86 on ARMv8";
     2 Heading nowhere "fewer than 7 bytes"
         "give the whole listing; its heading alone has 7 bytes";
     3 Mark nowhere "mark wrong"
         "start the listing with the bytes 4F 52 44";
-    4 Version nowhere "version not 1"
-        "write the version as 01 00";
+    4 Version nowhere "version not 1 or 2"
+        "write the version as 01 00, or as 02 00 for the kinds that version 2 adds";
     5 Routines nowhere "F is 0 or over 16"
         "have 1 to 16 routines: parts of a text, or their number in byte 5 of a listing";
     6 Nodes nowhere "N over 128"
@@ -174,9 +174,10 @@ table! {
         "compare byte 6, the number of nodes, with the records that follow; no byte may be left over";
     8 Routine node "node's routine not below F"
         "number the routines from 0, and give their count in byte 5";
-    9 Kind node "kind over 4"
-        "use 0 plain, 1 read, 2 write, 3 RMW or 4 fence";
-    10 Location node "kind 0 or 4 with a location other than 0"
+    9 Kind node "kind over 4 in version 1, over 9 in version 2"
+        "use 0 plain, 1 read, 2 write, 3 RMW or 4 fence; in version 2 also 5 acquire read, 6 release write, 7 load fence, \
+         8 store fence or 9 acquirePC read";
+    10 Location node "kind 0, 4, 7 or 8 with a location other than 0"
         "set the location to 0, or make the node an access";
     11 Successor node "successor neither 255 nor below N, or in another routine"
         "lead to a node of the same routine, or write 255 for none";
@@ -219,7 +220,7 @@ mod tests {
 
     #[test]
     fn says_its_place_where_it_has_one() {
-        assert_eq!(refused(9, 2).to_string(), "kind over 4 (refusal 9, node 2)");
+        assert_eq!(refused(8, 2).to_string(), "node's routine not below F (refusal 8, node 2)");
         assert_eq!(refused(7, 0).to_string(), "length not 7 + 6N (refusal 7)");
         assert_eq!(refused(14, 3).to_string(), "map byte not 0 or 1 (refusal 14, index 3)");
         assert_eq!(refused(17, 0).to_string(), "bad text (refusal 17, byte 0)");

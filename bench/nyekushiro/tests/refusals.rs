@@ -1,7 +1,7 @@
 //! The table of refusals, row by row: a smallest input, and its place.
 
 use nyekushiro::raw;
-use nyekushiro::{judge_patch, read, text, write, Place, Question, Reason, Refusal};
+use nyekushiro::{judge_patch, read, text, write, Place, Question, Reason, Refusal, Size};
 
 /// A listing of one routine with these records.
 fn listing(records: &[[u8; 6]]) -> Vec<u8> {
@@ -20,7 +20,7 @@ fn every_row() {
         (raw::judge(0, &[], &mut []).refusal().unwrap(), None),
         (read(b"ORD"), None),
         (read(b"ARD\x01\x00\x01\x00"), None),
-        (read(b"ORD\x02\x00\x01\x00"), None),
+        (read(b"ORD\x03\x00\x01\x00"), None),
         (read(b"ORD\x01\x00\x00\x00"), None),
         (read(b"ORD\x01\x00\x01\x81"), None),
         (read(b"ORD\x01\x00\x01\x01"), None),
@@ -37,5 +37,24 @@ fn every_row() {
     ];
     for (reason, (refusal, place)) in Reason::ALL.into_iter().zip(rows) {
         assert_eq!(refusal, Refusal { reason, place });
+    }
+}
+
+#[test]
+fn version_says_which_kinds_there_are() {
+    let node = |version, kind, location| {
+        let listing = [&[0x4F, 0x52, 0x44, version, 0, 1, 1][..], &[0, kind, location, 0, 255, 255]].concat();
+        read(&listing).map_err(|refusal| refusal.reason)
+    };
+    for (version, last) in [(1, 4), (2, 9)] {
+        for kind in 0..=255 {
+            let one = Size { nodes: 1, routines: 1 };
+            let expected = if kind <= last { Ok(one) } else { Err(Reason::Kind) };
+            assert_eq!(node(version, kind, 0), expected, "version {version}, kind {kind}");
+        }
+    }
+    // a load or store fence has no location; where the version has no such fence, that is said first
+    for kind in [7, 8] {
+        assert_eq!((node(1, kind, 1), node(2, kind, 1)), (Err(Reason::Kind), Err(Reason::Location)));
     }
 }

@@ -1,23 +1,19 @@
 //! Meeting, pairs, and the chain to show, by a breadth-first search over pairs.
 
-use crate::listing::{Kind, Listing, Node};
+use crate::listing::{Listing, Node};
+use crate::rules::Rules;
 use crate::walks::walks;
 
 /// A pair's first node and second node.
 pub type Pair = (usize, usize);
 
-/// Who may meet whom in a listing: `may_meet`, or what one may mistake for it.
-pub trait Meeting: Fn(&Listing, usize, usize) -> bool {}
-
-impl<M: Fn(&Listing, usize, usize) -> bool> Meeting for M {}
-
 /// "Two reads may meet only if the listing has a write or an RMW that may meet both of them; where either access is a write or RMW,
 /// the locations alone decide."
 pub fn may_meet(listing: &Listing, one: usize, other: usize) -> bool {
     let (one, other) = (&listing.nodes[one], &listing.nodes[other]);
-    let two_reads = one.kind == Kind::Read && other.kind == Kind::Read;
+    let two_reads = || one.kind.is_read() && other.kind.is_read();
     let meets_both = |node: &Node| node.kind.writes() && overlap(node, one) && overlap(node, other);
-    overlap(one, other) && (!two_reads || listing.nodes.iter().any(meets_both))
+    overlap(one, other) && (!two_reads() || listing.nodes.iter().any(meets_both))
 }
 
 /// "Either location is unknown or the numbers are equal."
@@ -33,9 +29,10 @@ pub fn surely_meet(one: &Node, other: &Node) -> bool {
 /// The pairs of a listing, listed under their first nodes, each list upward.
 pub fn pairs(listing: &Listing) -> Vec<Vec<Pair>> {
     let mut pairs = vec![Vec::new(); listing.nodes.len()];
-    for first in listing.accesses() {
+    let accesses: Vec<usize> = listing.accesses().collect();
+    for &first in &accesses {
         let reached = walks(listing, first, |_| true);
-        pairs[first] = listing.accesses().filter(|&second| reached[second]).map(|second| (first, second)).collect();
+        pairs[first] = accesses.iter().filter(|&&second| reached[second]).map(|&second| (first, second)).collect();
     }
     pairs
 }
@@ -44,7 +41,7 @@ pub fn pairs(listing: &Listing) -> Vec<Vec<Pair>> {
 ///
 /// The search finds pairs by the number of pairs that lead to them, and among those in the order of the smallest list that
 /// does: the first one found that is joined to `start` ends the chain to show. No pair is found twice, so all are different.
-pub fn shown_chain(listing: &Listing, pairs: &[Vec<Pair>], start: Pair, meet: &impl Meeting) -> Option<Vec<Pair>> {
+pub fn shown_chain(listing: &Listing, pairs: &[Vec<Pair>], start: Pair, rules: &impl Rules) -> Option<Vec<Pair>> {
     let count = listing.nodes.len();
     let mut found = vec![(start, 0)];
     let mut known = vec![false; count * count];
@@ -54,12 +51,12 @@ pub fn shown_chain(listing: &Listing, pairs: &[Vec<Pair>], start: Pair, meet: &i
     let mut at = 0;
     while at < found.len() {
         let (pair, _) = found[at];
-        if at > 0 && meet(listing, pair.1, start.0) {
+        if at > 0 && rules.may_meet(listing, pair.1, start.0) {
             return Some(list_back(&found, at));
         }
         if !followed[pair.1] {
             followed[pair.1] = true;
-            for first in (0..count).filter(|&first| meet(listing, pair.1, first)) {
+            for first in (0..count).filter(|&first| rules.may_meet(listing, pair.1, first)) {
                 for &next in &pairs[first] {
                     if !known[next.0 * count + next.1] {
                         known[next.0 * count + next.1] = true;

@@ -10,7 +10,8 @@ pub fn listing(parts: &[Block]) -> Listing {
         // "A routine's end leads nowhere."
         Routine { routine, nodes: &mut nodes }.block(part, None);
     }
-    Listing { routines: parts.len() as u8, nodes }
+    // "Output is the version 1 listing."
+    Listing { version: 1, routines: parts.len() as u8, nodes }
 }
 
 /// How many nodes a block has.

@@ -1,4 +1,4 @@
-//! "Fences put in": the patched listing.
+//! "Fences put in": the patched listing. "Version and F stay."
 
 use crate::listing::{Kind, Listing, Node};
 
@@ -11,5 +11,5 @@ pub fn patched(listing: &Listing, fenced: &[bool]) -> Listing {
             nodes.push(Node { routine: node.routine, kind: Kind::Fence, location: 0, successors: node.successors });
         }
     }
-    Listing { routines: listing.routines, nodes }
+    Listing { nodes, ..*listing }
 }

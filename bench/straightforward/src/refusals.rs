@@ -1,6 +1,6 @@
 //! The table of refusals, a function for each input of a service. A service asks for its inputs in the table's order.
 
-use crate::listing::{Kind, Listing, Node, HEADING, MOST_NODES, MOST_ROUTINES, NONE, RECORD};
+use crate::listing::{Kind, Listing, Node, HEADING, MOST_NODES, MOST_ROUTINES, NONE, RECORD, VERSIONS};
 use crate::need::Question;
 use crate::nodes;
 use crate::tree::{self, Block};
@@ -22,6 +22,8 @@ pub fn question(number: u64) -> Result<Question, Refusal> {
         2 => Ok(Question::ScOnArmv7),
         3 => Ok(Question::X86OnArmv7),
         4 => Ok(Question::Armv8OnArmv7),
+        5 => Ok(Question::ScOnArmv8),
+        6 => Ok(Question::X86OnArmv8),
         _ => refuse(1, 0),
     }
 }
@@ -34,7 +36,8 @@ pub fn listing(bytes: &[u8]) -> Result<Listing, Refusal> {
     if bytes[0..3] != [0x4F, 0x52, 0x44] {
         return refuse(3, 0);
     }
-    if u16::from_le_bytes([bytes[3], bytes[4]]) != 1 {
+    let version = u16::from_le_bytes([bytes[3], bytes[4]]);
+    if !VERSIONS.contains(&version) {
         return refuse(4, 0);
     }
     let (routines, count) = (bytes[5], bytes[6] as usize);
@@ -45,9 +48,9 @@ pub fn listing(bytes: &[u8]) -> Result<Listing, Refusal> {
     let records: Vec<&[u8]> = bytes[HEADING..].chunks(RECORD).collect();
     let mut nodes = Vec::new();
     for number in 0..count {
-        nodes.push(node(routines, &records, number)?);
+        nodes.push(node(version, routines, &records, number)?);
     }
-    Ok(Listing { routines, nodes })
+    Ok(Listing { version, routines, nodes })
 }
 
 /// Refusals 5 and 6.
@@ -62,13 +65,13 @@ fn limits(routines: usize, nodes: usize) -> Result<(), Refusal> {
 }
 
 /// Refusals 8 to 12, "all tried on node 0, then on node 1, and so on".
-fn node(routines: u8, records: &[&[u8]], number: usize) -> Result<Node, Refusal> {
+fn node(version: u16, routines: u8, records: &[&[u8]], number: usize) -> Result<Node, Refusal> {
     let record = records[number];
     let routine = record[0];
     if routine >= routines {
         return refuse(8, number);
     }
-    let Some(kind) = Kind::of(record[1]) else {
+    let Some(kind) = Kind::of(version, record[1]) else {
         return refuse(9, number);
     };
     let location = u16::from_le_bytes([record[2], record[3]]);

@@ -1,11 +1,12 @@
 //! The six services over numbers and bytes, and the judge program.
 
-use crate::chains::{Meeting, Pair};
+use crate::chains::Pair;
 use crate::listing::Listing;
 use crate::need::Question;
 use crate::nodes;
 use crate::patch::patched;
 use crate::refusals::{self, Refusal};
+use crate::rules::Rules;
 use crate::verdict::{failing, first_failing, first_nodes};
 
 /// "The chain buffer must have 258 bytes."
@@ -84,14 +85,13 @@ fn answer(question: Question, listing: &Listing, buffer: &mut [u8]) -> Answer {
     Answer::Open { first: chain[0].0, second: chain[0].1, count: chain.len() }
 }
 
-/// What would fail in the listing with this map if `meet` said who may meet whom: for each first node of a failing pair, upward, the
-/// chain to show of its first one. The first chain would be shown, and their first nodes proposed. It is there for those who ask which
-/// answers turn on who meets whom.
-pub fn failing_by(meet: impl Meeting, question: u64, listing: &[u8], map: &[u8]) -> Result<Vec<Vec<Pair>>, Refusal> {
+/// What would fail in the listing with this map by these rules: for each first node of a failing pair, upward, the chain to show of its
+/// first one. The first chain would be shown, and their first nodes proposed. It is there for those who ask which answers turn on a rule.
+pub fn failing_by(rules: &impl Rules, question: u64, listing: &[u8], map: &[u8]) -> Result<Vec<Vec<Pair>>, Refusal> {
     let question = refusals::question(question)?;
     let listing = refusals::listing(listing)?;
     let fenced = refusals::map(map, &listing)?;
-    Ok(failing(question, &patched(&listing, &fenced), meet).collect())
+    Ok(failing(question, &patched(&listing, &fenced), rules).collect())
 }
 
 /// The judge program's line for what it reads from standard input, without the line's end.

@@ -1,52 +1,65 @@
 //! Failing pairs, and the first of them with its chain.
 
-use crate::chains::{may_meet, pairs, shown_chain, surely_meet, Meeting, Pair};
-use crate::listing::Listing;
-use crate::need::{is_barrier, needs_order, Question};
-use crate::walks::{walks, walks_past_rmw};
+use crate::chains::{pairs, shown_chain, surely_meet, Pair};
+use crate::listing::{Kind, Kinds, Listing};
+use crate::need::Question;
+use crate::rules::{AsTheyAre, Rules};
+use crate::walks::{walks_past_rmw, Unbarred};
 
 /// The chain to show of the first failing pair; none if the listing is robust.
 pub fn first_failing(question: Question, listing: &Listing) -> Option<Vec<Pair>> {
-    failing(question, listing, may_meet).next()
+    failing(question, listing, &AsTheyAre).next()
 }
 
 /// For every node, whether it is the first node of a failing pair.
 pub fn first_nodes(question: Question, listing: &Listing) -> Vec<bool> {
     let mut firsts = vec![false; listing.nodes.len()];
-    for chain in failing(question, listing, may_meet) {
+    for chain in failing(question, listing, &AsTheyAre) {
         firsts[chain[0].0] = true;
     }
     firsts
 }
 
 /// For each first node of a failing pair, upward, the chain to show of its first one.
-pub fn failing<'a>(question: Question, listing: &'a Listing, meet: impl Meeting + 'a) -> impl Iterator<Item = Vec<Pair>> + 'a {
-    let pairs = pairs(listing);
-    listing.accesses().filter_map(move |first| first_failing_from(question, listing, &pairs, first, &meet))
+pub fn failing<'a>(question: Question, listing: &'a Listing, rules: &'a impl Rules) -> impl Iterator<Item = Vec<Pair>> + 'a {
+    let judged = Judged { question, listing, pairs: pairs(listing), kinds: listing.kinds(), rules };
+    listing.accesses().filter_map(move |first| judged.first_failing_from(first))
 }
 
-/// The chain to show of the first failing pair that starts with this node.
-fn first_failing_from(
+/// What a listing is judged by.
+struct Judged<'a, R: Rules> {
     question: Question,
-    listing: &Listing,
-    pairs: &[Vec<Pair>],
-    first: usize,
-    meet: &impl Meeting,
-) -> Option<Vec<Pair>> {
-    if pairs[first].is_empty() {
-        return None;
-    }
-    let unbarred = walks(listing, first, |node| !is_barrier(question, node.kind));
-    let past_rmw = walks_past_rmw(listing, first);
-    let one = &listing.nodes[first];
-    pairs[first].iter().find_map(|&pair| {
-        let other = &listing.nodes[pair.1];
-        let fails = needs_order(question, one.kind, other.kind, past_rmw[pair.1]) && !surely_meet(one, other) && unbarred[pair.1];
-        // the longest question is asked last
-        if fails {
-            shown_chain(listing, pairs, pair, meet)
-        } else {
-            None
+    listing: &'a Listing,
+    pairs: Vec<Vec<Pair>>,
+    kinds: Kinds,
+    rules: &'a R,
+}
+
+impl<R: Rules> Judged<'_, R> {
+    /// The chain to show of the first failing pair that starts with this node.
+    fn first_failing_from(&self, first: usize) -> Option<Vec<Pair>> {
+        if self.pairs[first].is_empty() {
+            return None;
         }
-    })
+        let mut unbarred = Unbarred::new(self.listing, first);
+        let past_rmw = walks_past_rmw(self.listing, first);
+        let one = &self.listing.nodes[first];
+        self.pairs[first].iter().find_map(|&pair| {
+            let other = &self.listing.nodes[pair.1];
+            let fails = self.rules.needs_order(self.question, one.kind, other.kind, past_rmw[pair.1])
+                && !surely_meet(one, other)
+                && unbarred.lead_to(pair.1, self.barriers(one.kind, other.kind));
+            // the longest question is asked last
+            if fails {
+                shown_chain(self.listing, &self.pairs, pair, self.rules)
+            } else {
+                None
+            }
+        })
+    }
+
+    /// The kinds of the listing that are barriers between two ends of these kinds.
+    fn barriers(&self, first: Kind, second: Kind) -> Kinds {
+        Kind::ALL.map(|inside| self.kinds[inside as usize] && self.rules.is_barrier(self.question, inside, first, second))
+    }
 }

@@ -1,6 +1,6 @@
 //! Walks, by a search of the graph from each node.
 
-use crate::listing::{Kind, Listing, Node};
+use crate::listing::{Kind, Kinds, Listing, Node};
 
 /// The nodes to which a walk from `from` leads that has only nodes inside which `may_be_inside` admits.
 pub fn walks(listing: &Listing, from: usize, may_be_inside: impl Fn(&Node) -> bool) -> Vec<bool> {
@@ -16,6 +16,30 @@ pub fn walks(listing: &Listing, from: usize, may_be_inside: impl Fn(&Node) -> bo
         }
     }
     reached
+}
+
+/// The searches from one node past barriers, each made once: what is a barrier hangs on where the walk ends.
+pub struct Unbarred<'a> {
+    listing: &'a Listing,
+    from: usize,
+    made: Vec<(Kinds, Vec<bool>)>,
+}
+
+impl<'a> Unbarred<'a> {
+    pub fn new(listing: &'a Listing, from: usize) -> Unbarred<'a> {
+        Unbarred { listing, from, made: Vec::new() }
+    }
+
+    /// Whether a walk leads to `to` that has none of these kinds inside.
+    pub fn lead_to(&mut self, to: usize, barriers: Kinds) -> bool {
+        if let Some((_, reached)) = self.made.iter().find(|(made, _)| *made == barriers) {
+            return reached[to];
+        }
+        let reached = walks(self.listing, self.from, |node| !barriers[node.kind as usize]);
+        let leads = reached[to];
+        self.made.push((barriers, reached));
+        leads
+    }
 }
 
 /// The nodes to which some walk from `from` leads that has an RMW inside.

@@ -1,13 +1,27 @@
 //! The rules once more, by trying everything: all walks, all locations, all lists of different pairs, all short closed chains of steps.
 //! Thousands of tiny listings are judged both ways.
 
-use inputs::{tiny_listing, Random};
+use inputs::{tiny_listing, version, Random};
 use straightforward::{judge, judge_patch, propose, write, Answer, CHAIN_BUFFER};
 
 type Pair = (usize, usize);
 
 /// A walk: its first node, what is inside, its last node.
 type Walk = (usize, Vec<usize>, usize);
+
+/// The kinds that are accesses.
+const ACCESSES: [u8; 6] = [1, 2, 3, 5, 6, 9];
+
+/// Which pairs need order, by question: a row for each first kind and a letter for each second kind, both in the order of ACCESSES.
+/// `n` need, `-` none, `u` only if some walk between them has an RMW inside.
+const NEED: [[&str; ACCESSES.len()]; 6] = [
+    ["------", "n--n-n", "------", "------", "n--n-n", "------"],
+    ["nnnnnn", "nnnnnn", "nnnnnn", "nnnnnn", "nnnnnn", "nnnnnn"],
+    ["nnnnnn", "unnunu", "nnnnnn", "nnnnnn", "unnunu", "nnnnnn"],
+    ["nnnnnn", "------", "nnnnnn", "nnnnnn", "------", "nnnnnn"],
+    ["nnnn-n", "nnnn-n", "nnnn-n", "------", "nnn--n", "------"],
+    ["nnnn-n", "unnu-u", "nnnn-n", "------", "unn--u", "------"],
+];
 
 struct Tiny<'a> {
     records: Vec<&'a [u8]>,
@@ -47,7 +61,7 @@ impl<'a> Tiny<'a> {
     }
 
     fn accesses(&self, pair: Pair) -> bool {
-        [pair.0, pair.1].iter().all(|&node| [1, 2, 3].contains(&self.kind(node)))
+        [pair.0, pair.1].iter().all(|&node| ACCESSES.contains(&self.kind(node)))
     }
 
     fn insides(&self, pair: Pair) -> impl Iterator<Item = &Vec<usize>> {
@@ -66,9 +80,9 @@ impl<'a> Tiny<'a> {
     fn who_meets(&self, two_reads: Option<bool>) -> Vec<Vec<bool>> {
         let nodes = || 0..self.records.len();
         let may_be = |node: usize, there: u16| [0, there].contains(&self.location(node));
-        let is_written = |there: u16| nodes().any(|node| [2, 3].contains(&self.kind(node)) && may_be(node, there));
+        let is_written = |there: u16| nodes().any(|node| [2, 3, 6].contains(&self.kind(node)) && may_be(node, there));
         let meet = |one: usize, other: usize| {
-            let reads = self.kind(one) == 1 && self.kind(other) == 1;
+            let reads = [one, other].iter().all(|&node| [1, 5, 9].contains(&self.kind(node)));
             let may_both_be = |there: &u16| may_be(one, *there) && may_be(other, *there);
             let mut shared = nodes().map(|node| self.location(node)).filter(may_both_be);
             shared.any(|there| !reads || two_reads.unwrap_or_else(|| is_written(there)))
@@ -94,17 +108,22 @@ impl<'a> Tiny<'a> {
     }
 
     fn needs_order(&self, pair: Pair) -> bool {
-        let kinds = (self.kind(pair.0), self.kind(pair.1));
-        match self.question {
-            1 => kinds == (2, 1),
-            2 => true,
-            3 => kinds != (2, 1) || self.insides(pair).any(|inside| inside.iter().any(|&node| self.kind(node) == 3)),
-            _ => kinds.0 != 2,
+        let [row, column] = [pair.0, pair.1].map(|node| ACCESSES.iter().position(|&kind| kind == self.kind(node)).unwrap());
+        match NEED[self.question as usize - 1][row].as_bytes()[column] {
+            b'u' => self.insides(pair).any(|inside| inside.iter().any(|&node| self.kind(node) == 3)),
+            need => need == b'n',
         }
     }
 
-    fn has_barrier(&self, inside: &[usize]) -> bool {
-        inside.iter().any(|&node| self.kind(node) == 4 || (self.question == 1 && self.kind(node) == 3))
+    /// Some node inside a walk between the ends of the pair is a barrier for them.
+    fn has_barrier(&self, pair: Pair, inside: &[usize]) -> bool {
+        let (first, second) = (self.kind(pair.0), self.kind(pair.1));
+        inside.iter().any(|&node| match (self.kind(node), self.question) {
+            (4, _) | (3, 1) => true,
+            (7, 5 | 6) => first == 1,
+            (8, 5 | 6) => [(2, 2), (2, 6), (6, 2), (6, 6)].contains(&(first, second)),
+            _ => false,
+        })
     }
 
     /// All the chains that go on from `list`, with at most `most` pairs, given to `see`.
@@ -140,7 +159,9 @@ impl<'a> Tiny<'a> {
     fn failing(&self) -> Vec<Vec<Pair>> {
         let pairs = self.pairs();
         let fails = |pair: &Pair| {
-            self.needs_order(*pair) && !self.surely_meet(*pair) && self.insides(*pair).any(|inside| !self.has_barrier(inside))
+            self.needs_order(*pair)
+                && !self.surely_meet(*pair)
+                && self.insides(*pair).any(|inside| !self.has_barrier(*pair, inside))
         };
         pairs.iter().filter(|pair| fails(pair)).filter_map(|&pair| self.shown_chain(&pairs, pair)).collect()
     }
@@ -152,7 +173,7 @@ impl<'a> Tiny<'a> {
         let pairs = self.pairs();
         self.walks.iter().filter(|walk| self.accesses((walk.0, walk.2))).all(|(first, inside, second)| {
             let pair = (*first, *second);
-            let in_order = self.surely_meet(pair) || self.has_barrier(inside);
+            let in_order = self.surely_meet(pair) || self.has_barrier(pair, inside);
             in_order || !self.needs_order(pair) || !self.on_ring(&pairs, &mut vec![pair], most)
         })
     }
@@ -198,6 +219,20 @@ impl Turned {
     }
 }
 
+/// How often each verdict was met, by version and question: OPEN and ROBUST.
+#[derive(Default, Debug)]
+struct Met([[[usize; 2]; 6]; 2]);
+
+impl Met {
+    fn count(&mut self, question: u64, listing: &[u8], robust: bool) {
+        self.0[version(listing) as usize - 1][question as usize - 1][robust as usize] += 1;
+    }
+
+    fn must_be_over(&self, least: usize) {
+        assert!(self.0.iter().flatten().flatten().all(|&count| count > least), "too few of a verdict to mean anything: {self:?}");
+    }
+}
+
 /// Links that visit every node twice: enough for a walk past an RMW.
 fn links(listing: &[u8]) -> usize {
     2 * listing[6] as usize
@@ -217,11 +252,11 @@ fn judged(question: u64, listing: &[u8], map: &[u8]) -> Option<Vec<Pair>> {
 #[test]
 fn verdict_chain_and_proposal_by_trying_everything() {
     let mut random = Random::seeded(1);
-    let (mut open, mut long, mut turned) = (0, 0, Turned::default());
+    let (mut met, mut long, mut turned) = (Met::default(), 0, Turned::default());
     for _ in 0..20000 {
         let listing = tiny_listing(&mut random);
         let nodes = listing[6] as usize;
-        for question in 1..=4 {
+        for question in 1..=6 {
             let tried = Tiny::new(question, &listing, links(&listing)).by_each_rule(Tiny::failing);
             turned.count(tried.each_ref().map(Vec::is_empty));
             let [failing, ..] = tried;
@@ -230,41 +265,44 @@ fn verdict_chain_and_proposal_by_trying_everything() {
             let mut map = vec![7; nodes];
             assert_eq!(propose(question, &listing, &mut map).unwrap(), expected.iter().filter(|&&byte| byte == 1).count());
             assert_eq!(map, expected, "{question} {listing:?}");
-            open += !failing.is_empty() as usize;
+            met.count(question, &listing, failing.is_empty());
             long += failing.iter().any(|chain| chain.len() > 2) as usize;
         }
     }
-    assert!(open > 5000 && long > 300, "too few open listings ({open}) or long chains ({long}) to mean anything");
+    assert!(long > 300, "too few long chains ({long}) to mean anything");
+    met.must_be_over(100);
     turned.must_be_over(500);
 }
 
 #[test]
 fn demand_3_by_trying_short_closed_chains() {
     let mut random = Random::seeded(3);
-    let mut turned = Turned::default();
-    for _ in 0..2000 {
+    let (mut met, mut turned) = (Met::default(), Turned::default());
+    for _ in 0..4000 {
         let listing = tiny_listing(&mut random);
         let nodes = listing[6] as usize;
-        for question in 1..=4 {
+        for question in 1..=6 {
             let mut chain = [0; CHAIN_BUFFER];
             let robust = judge(question, &listing, &mut chain).unwrap() == Answer::Robust;
             // four accesses: no chain to show has more than five pairs
             let ordered = Tiny::new(question, &listing, links(&listing)).by_each_rule(|tiny| tiny.ordered(5));
             assert_eq!(ordered[0], robust, "{question} {listing:?}");
+            met.count(question, &listing, robust);
             turned.count(ordered);
             let mut map = vec![0; nodes];
             propose(question, &listing, &mut map).unwrap();
             assert_eq!(judged(question, &listing, &map), None, "the proposal is not accepted: {question} {listing:?}");
         }
     }
+    met.must_be_over(10);
     turned.must_be_over(25);
 }
 
 #[test]
 fn patches_by_trying_everything_on_the_written_listing() {
     let mut random = Random::seeded(5);
-    let mut turned = Turned::default();
-    for _ in 0..2000 {
+    let (mut met, mut turned) = (Met::default(), Turned::default());
+    for _ in 0..4000 {
         let listing = tiny_listing(&mut random);
         if listing[6] > 4 {
             continue; // with the fences there would be too many walks to try
@@ -272,15 +310,17 @@ fn patches_by_trying_everything_on_the_written_listing() {
         let map: Vec<u8> = (0..listing[6]).map(|_| random.once_in(3) as u8).collect();
         let mut written = [0; 7 + 6 * 8];
         let length = write(&listing, &map, &mut written).unwrap();
-        for question in 1..=4 {
+        for question in 1..=6 {
             let tiny = Tiny::new(question, &written[..length], links(&written));
             let pairs = tiny.pairs();
             let tried = tiny.by_each_rule(|tiny| tiny.failing().into_iter().next());
             turned.count(tried.each_ref().map(Option::is_none));
             let [first, ..] = tried;
+            met.count(question, &listing, first.is_none());
             assert_eq!(judged(question, &listing, &map), first, "{question} {map:?} {listing:?}");
             assert!(pairs.iter().all(|pair| pair.0.max(pair.1) < map.len()), "a fence is no access");
         }
     }
+    met.must_be_over(10);
     turned.must_be_over(25);
 }

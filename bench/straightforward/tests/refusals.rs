@@ -1,6 +1,6 @@
 //! The table of refusals: a smallest input for each row, and the order of the rows.
 
-use inputs::{bytes, sketch, Record, NONE};
+use inputs::{bytes, kinds, sketch, Record, ACQUIRE, ACQUIRE_PC, LOAD_FENCE, NONE, QUESTIONS, STORE_FENCE, VERSIONS};
 use straightforward::{judge, judge_patch, propose, read, write, Refusal};
 
 const A: &str = "w1 r2; w2 r1";
@@ -9,10 +9,14 @@ fn refused<T>(number: u64, place: u64) -> Result<T, Refusal> {
     Err(Refusal { number, place })
 }
 
-/// A listing of two routines whose node 1 is this one; node 0 and node 2 are plain, of routine 0 and 1.
+/// A version 1 listing of two routines whose node 1 is this one; node 0 and node 2 are plain, of routine 0 and 1.
 fn with_node(kind: u8, location: u16, first: u8, second: u8) -> Vec<u8> {
+    in_version(1, kind, location, first, second)
+}
+
+fn in_version(version: u8, kind: u8, location: u16, first: u8, second: u8) -> Vec<u8> {
     let plain = |routine| Record { routine, kind: 0, location: 0, first: NONE, second: NONE };
-    bytes(2, &[plain(0), Record { routine: 0, kind, location, first, second }, plain(1)])
+    bytes(version, 2, &[plain(0), Record { routine: 0, kind, location, first, second }, plain(1)])
 }
 
 fn with_byte(at: usize, byte: u8) -> Vec<u8> {
@@ -28,7 +32,8 @@ fn rows_of_the_listing() {
         (b"ORD\x01\x00\x01".to_vec(), 2, 0),
         (with_byte(0, b'o'), 3, 0),
         (with_byte(2, b'E'), 3, 0),
-        (with_byte(3, 2), 4, 0),
+        (with_byte(3, 0), 4, 0),
+        (with_byte(3, 3), 4, 0),
         (with_byte(4, 1), 4, 0),
         (with_byte(5, 0), 5, 0),
         (with_byte(5, 17), 5, 0),
@@ -40,8 +45,17 @@ fn rows_of_the_listing() {
         (with_byte(7, 2), 8, 0),
         (with_byte(5, 1), 8, 2),
         (with_node(5, 0, NONE, NONE), 9, 1),
+        (with_node(9, 1, NONE, NONE), 9, 1),
+        (in_version(2, 10, 0, NONE, NONE), 9, 1),
+        (in_version(2, 255, 0, NONE, NONE), 9, 1),
+        // a version 1 listing has no load fence, be its location what it may
+        (with_node(LOAD_FENCE, 1, NONE, NONE), 9, 1),
         (with_node(0, 1, NONE, NONE), 10, 1),
         (with_node(4, 256, NONE, NONE), 10, 1),
+        (in_version(2, 0, 1, NONE, NONE), 10, 1),
+        (in_version(2, 4, 1, NONE, NONE), 10, 1),
+        (in_version(2, LOAD_FENCE, 1, NONE, NONE), 10, 1),
+        (in_version(2, STORE_FENCE, 65535, NONE, NONE), 10, 1),
         (with_node(1, 1, 3, NONE), 11, 1),
         (with_node(1, 1, 254, NONE), 11, 1),
         (with_node(1, 1, 2, NONE), 11, 1),
@@ -50,6 +64,8 @@ fn rows_of_the_listing() {
         (with_node(1, 1, NONE, 0), 12, 1),
         (with_node(1, 1, 1, 0), 12, 1),
         (with_node(1, 1, 1, 1), 12, 1),
+        (in_version(2, ACQUIRE, 1, 2, NONE), 11, 1),
+        (in_version(2, ACQUIRE_PC, 1, NONE, 0), 12, 1),
     ];
     for (listing, number, place) in cases {
         assert_eq!(read(listing), refused(*number, *place), "{listing:?}");
@@ -60,19 +76,28 @@ fn rows_of_the_listing() {
 
 #[test]
 fn good_at_the_edge() {
-    for listing in [with_byte(5, 16), with_node(1, 65535, 0, 1), with_node(2, 0, 1, NONE), b"ORD\x01\x00\x01\x00".to_vec()] {
+    for version in VERSIONS {
+        for kind in 0..kinds(version) {
+            assert_eq!(read(&in_version(version, kind, 0, NONE, NONE)), Ok((3, 2)), "version {version}, kind {kind}");
+        }
+    }
+    for listing in
+        [with_byte(3, 2), with_byte(5, 16), with_node(1, 65535, 0, 1), with_node(2, 0, 1, NONE), b"ORD\x01\x00\x01\x00".to_vec()]
+    {
         assert!(read(&listing).is_ok(), "{listing:?}");
     }
 }
 
 #[test]
 fn question_comes_first() {
-    for question in [0, 5, 257, (1 << 32) | 1, u64::MAX] {
+    for question in [0, QUESTIONS as u64 + 1, 257, (1 << 32) | 1, u64::MAX] {
         assert_eq!(judge(question, &[], &mut []), refused(1, 0));
         assert_eq!(judge_patch(question, &[], &[9], &mut []), refused(1, 0));
         assert_eq!(propose(question, &[], &mut []), refused(1, 0));
     }
-    assert_eq!(judge(4, &[], &mut []), refused(2, 0));
+    for question in 1..=QUESTIONS as u64 {
+        assert_eq!(judge(question, &[], &mut []), refused(2, 0));
+    }
 }
 
 #[test]

@@ -1,6 +1,6 @@
 //! "Rehearsed listings": every case under every question, and the sentences under the table.
 
-use inputs::{sketch, CASES};
+use inputs::{sketch, version, CASES, QUESTIONS, VERSION_AT};
 use straightforward::{judge, judge_patch, program, propose, read, write, Answer, Refusal, CHAIN_BUFFER};
 
 const A: &str = "w1 r2; w2 r1";
@@ -72,6 +72,28 @@ fn fences_of_case_e_written() {
 }
 
 #[test]
+fn version_stays_and_the_fence_is_a_full_one() {
+    for listing in ["w1 r2", "l1 a2", "w1 d"] {
+        let before = sketch(listing);
+        let mut out = [0; 25];
+        assert_eq!(write(&before, &[1, 0], &mut out), Ok(25));
+        assert_eq!((version(&out), out[VERSION_AT + 1]), (version(&before), 0));
+        assert_eq!(&out[19..], b"\x00\x04\x00\x00\x01\xff");
+    }
+}
+
+#[test]
+fn version_1_is_answered_as_version_2_with_the_same_records() {
+    for case in CASES {
+        let mut listing = sketch(case.listing);
+        listing[VERSION_AT] = 2;
+        for (question, expected) in (1..=QUESTIONS as u64).zip(case.lines) {
+            assert_eq!(line(question, &listing, case.map), expected, "case {} question {question}", case.name);
+        }
+    }
+}
+
+#[test]
 fn limits() {
     let full = sketch(&"p ".repeat(128));
     assert_eq!(read(&full), Ok((128, 1)));
@@ -96,6 +118,12 @@ fn shortcuts_that_look_right() {
         ("an RMW writes what two reads read", 2, "r1 r2; r2 r1; u1; u2", "OPEN 0 1 2 0-1 2-3"),
         ("so does a node of their own routine", 2, "r1 r2>255 w1>255 w2; r2 r1", "OPEN 0 1 2 0-1 4-5"),
         ("a write to another cell does not", 2, "r1 r2; r2 r1; w1; w3", "ROBUST"),
+        ("an acquire inside is no barrier", 5, "w1 a3 w2; q2 r1", "OPEN 0 2 2 0-2 3-4"),
+        ("a release inside neither", 5, "w1 l3 w2; q2 r1", "OPEN 0 2 2 0-2 3-4"),
+        ("an acquire between writes of a release", 6, "l1 a3 w2; q2 r1", "OPEN 0 2 2 0-2 3-4"),
+        ("a load fence on one of two walks", 5, "r1>1,2 d w2; q2 l1", "OPEN 0 2 2 0-2 3-4"),
+        ("a store fence on one and a load fence on the other", 5, "w1>1,2 s>3 d>3 w2; q2 r1", "OPEN 0 3 2 0-3 4-5"),
+        ("one store fence bars for one end and not for the other", 5, "w1 s w2 r3; q2 r1; l3 w1", "OPEN 0 3 2 0-3 6-7"),
         ("the smallest of the shortest", 2, "w1 w2; w2 w0; w2 w1", "OPEN 0 1 2 0-1 2-3"),
     ];
     for (why, question, listing, expected) in cases {

@@ -1,4 +1,5 @@
 // Judging: what the judge answers to each rehearsed listing, one line a question.
+use crate::armv8::armv8;
 use crate::full;
 use crate::meeting::meeting;
 use listing::Listing;
@@ -29,12 +30,14 @@ fn ask_short(name: &[u8], question: u64, bytes: &[u8]) {
     print::judged(answer, &chain);
 }
 
-// A listing under each of the four questions.
+// A listing under each question.
 pub fn case(name: &[u8], bytes: &[u8]) {
     ask(name, 1, bytes);
     ask(name, 2, bytes);
     ask(name, 3, bytes);
     ask(name, 4, bytes);
+    ask(name, 5, bytes);
+    ask(name, 6, bytes);
 }
 
 // Two routines over the cells x and y.
@@ -174,6 +177,7 @@ pub fn judging(a: &[u8]) {
     blocks();
     one_routine();
     meeting();
+    armv8();
     neighbours();
     sizes();
     refusals(a);

@@ -1,4 +1,5 @@
 // The rehearsed listings and the sentences under their table: what each service answers, one line a case.
+mod armv8;
 mod full;
 mod judging;
 mod meeting;

@@ -13,12 +13,14 @@ fn ask(name: &[u8], question: u64, bytes: &[u8], map: &[u8]) {
     print::judged(answer, &chain);
 }
 
-// A listing and its map under each of the four questions.
+// A listing and its map under each question.
 fn case(name: &[u8], bytes: &[u8], map: &[u8]) {
     ask(name, 1, bytes, map);
     ask(name, 2, bytes, map);
     ask(name, 3, bytes, map);
     ask(name, 4, bytes, map);
+    ask(name, 5, bytes, map);
+    ask(name, 6, bytes, map);
 }
 
 fn propose(name: &[u8], question: u64, bytes: &[u8]) {

@@ -1,5 +1,5 @@
 -- From what the failing-pair test reads to whether the pair fails.
-use mathlib.Core.Path.{_≡_, sym, subst, _∙_}
+use mathlib.Core.Path.{_≡_, sym, subst}
 use mathlib.Core.Bool.{Bool, false, not}
 use mathlib.Core.List.{List}
 use Prim.Native.Nat.{ℕ, _≤_, _<_}
@@ -8,10 +8,10 @@ use Rattle.listing.specs.Bytes.{countN, nodesOf}
 use Rattle.listing.specs.Node.{Listing}
 use Rattle.order.specs.Walks.{kindAt}
 use Rattle.order.specs.Chains.{SurelyMeet, IsPair}
-use Rattle.order.specs.Need.{question, Entry, need, leave, leaveUnlessRmw, entry, Says, Needs, RmwInside}
-use Rattle.order.specs.Inner.Table.{entryOf, numberOf}
+use Rattle.order.specs.Need.{question, Entry, leaveUnlessRmw, entry, Says, Needs, RmwInside}
+use Rattle.order.specs.Inner.Table.{numberOf}
 use Rattle.order.specs.Verdict.{Fails}
-use Rattle.order.proofs.Entries.{number-leave, number-need, number-unless, number-below, entry-of}
+use Rattle.order.proofs.Entries.{number-leave, number-need, number-unless, number-below}
 use Rattle.rows.specs.Inner.Rows.{Has, Tells, Holds}
 use Rattle.suspects.specs.Inner.Suspect.{Suspect, Exchanged}
 use Rattle.failing.specs.Inner.Failing.{Prepared}
@@ -38,9 +38,12 @@ pub suspected : {q : ℕ} {bytes c i : List ℕ} → Prepared q bytes c i → (a
     → (r : Bool) → not r ≡ false → Tells r (Has c a b) → Suspect q (nodesOf bytes) a b
 suspected {q} {bytes} {c} {i} p a b l r e t = p .suspects .sound a b (omega (arith, p .whole .few)) (tells-yes (Has c a b) r e t) .2
 
--- the table's number of a pair
+-- the table's entry of a pair, and its number
+abbrev entryAt : ℕ → Listing → ℕ → ℕ → Entry
+entryAt q L a b = entry (question q) (kindAt L a) (kindAt L b)
+
 abbrev pub number : ℕ → Listing → ℕ → ℕ → ℕ
-number q L a b = numberOf (entryOf q (kindAt L a) (kindAt L b))
+number q L a b = numberOf (entryAt q L a b)
 
 -- what an entry says of a pair
 abbrev SaysOf : Listing → ℕ → ℕ → Entry → Type 0
@@ -50,16 +53,12 @@ module _ (q : ℕ) (L : Listing) (a b : ℕ) (s : Suspect q L a b) where
   pair : IsPair L (a, b)
   pair = suspect-pair q L a b s
 
-  -- what the table's number says
-  says : (e : Entry) → entryOf q (kindAt L a) (kindAt L b) ≡ e → entry (question q) (kindAt L a) (kindAt L b) ≡ e
-  says e h = sym (entry-of q (kindAt L a) (kindAt L b) (pair .from) (pair .to)) ∙ h
-
   pub left-out : number q L a b ≡ 0 → Fails q L a b → ⊥
-  left-out h f = subst (SaysOf L a b) (says leave (number-leave _ h)) (f .needs)
+  left-out h f = subst (SaysOf L a b) (number-leave (entryAt q L a b) h) (f .needs)
 
   module _ (apart : SurelyMeet L a b → ⊥) where
     pub needed : number q L a b ≡ 1 → Fails q L a b
-    needed h = suspect-fails q L a b s (subst (SaysOf L a b) (sym (says need (number-need _ h))) tt) apart
+    needed h = suspect-fails q L a b s (subst (SaysOf L a b) (sym (number-need (entryAt q L a b) h)) tt) apart
 
     -- THE ROWS OF AN RMW INSIDE DECIDE where the table leaves it to them
     pub unless-inside : (i : List ℕ) (n : ℕ) → n ≤ 128 → a < n → b < n → Holds i n (Exchanged L) → (r : Bool)
@@ -70,5 +69,5 @@ module _ (q : ℕ) (L : Listing) (a b : ℕ) (s : Suspect q L a b) where
         (λ h. suspect-fails q L a b s (subst (SaysOf L a b) (sym e) (hi .sound a b (omega arith) h .2 .2)) apart)
         (λ f. hi .whole a b la lb (pair .from, pair .to, subst (SaysOf L a b) e (f .needs))) t
       where
-        e : entry (question q) (kindAt L a) (kindAt L b) ≡ leaveUnlessRmw
-        e = says leaveUnlessRmw (number-unless _ (omega (arith, number-below (entryOf q (kindAt L a) (kindAt L b)))))
+        e : entryAt q L a b ≡ leaveUnlessRmw
+        e = number-unless (entryAt q L a b) (omega (arith, number-below (entryAt q L a b)))

@@ -1,11 +1,13 @@
 -- A patched listing is valid where the old one is.
 use mathlib.Core.Path.{_≡_, refl, sym, ap, _∙_, subst}
 use mathlib.Core.Logic.{_⊎_, inl, inr}
-use mathlib.Core.Bool.{true, false}
+use mathlib.Core.Bool.{Bool, true, false, cond}
 use Prim.Native.Nat.{ℕ, _<_}
 use native.Mathlib.Omega.{arith}
 use native.Mathlib.Decide.{decLt}
+use lib.Dec.{eqb}
 use lib.ListN.{length}
+use Rattle.listing.specs.Kinds.{FENCE, KINDS, kindsOf}
 use Rattle.listing.specs.Node.{Node, Listing, node}
 use Rattle.listing.specs.Valid.{Goes, NodeOk, Valid}
 use Rattle.listing.proofs.Bools.{bool?}
@@ -19,6 +21,14 @@ valid-links v f L ok a h = (go (node L a .first) (ok a h .first), go (node L a .
     go : (s : ℕ) → Goes L (node L a) s → Target L s
     go s (inl e) = inl e
     go s (inr g) = inr (g .0)
+
+-- every version admits a full fence
+fence-below : (v : ℕ) → FENCE < kindsOf v
+fence-below v = of (eqb v 1)
+  where
+    of : (b : Bool) → FENCE < cond b 5 KINDS
+    of true = omega arith
+    of false = omega arith
 
 module _ (L : Listing) (ms : Marks) where
   -- the old nodes keep their routines
@@ -61,7 +71,7 @@ module _ (L : Listing) (ms : Marks) where
     fence-ok : (a : ℕ) → a < length L → NodeOk v f (patched L ms) (fenceAfter (node L a))
     fence-ok a h =
         let o = same-ok a h in
-        record { routine = o .routine; kind = omega arith; location = λ k. refl; first = o .first; second = o .second; order = o .order }
+        record { routine = o .routine; kind = fence-below v; location = λ k. refl; first = o .first; second = o .second; order = o .order }
 
     -- A PATCHED LISTING IS VALID
     pub patched-valid : Valid v f (patched L ms)

@@ -19,6 +19,11 @@ pub neither-or : (a b : Bool) → a ≡ false → b ≡ false → (a || b) ≡ f
 neither-or true b e f = e
 neither-or false b e f = f
 
+-- where the first is not, the rest decides
+pub or-rest : (a b : Bool) → a ≡ false → (a || b) ≡ b
+or-rest true b e = absurd (subst T e tt)
+or-rest false b e = refl
+
 pub and-lacks : (a b : Bool) → (a && b) ≡ false → (a ≡ false) ⊎ (b ≡ false)
 and-lacks true b e = inr e
 and-lacks false b e = inl refl
@@ -33,6 +38,11 @@ and-both true b e = (refl, e)
 and-both false b e = absurd (false≢true e)
 
 -- ── Statements ──────────────────────────────────────────────────────────────
+-- what a test is by what it is not
+pub not-is : (r b : Bool) → not r ≡ b → r ≡ not b
+not-is true b e = ap not e
+not-is false b e = ap not e
+
 pub T? : (b : Bool) → Dec (T b)
 T? true = yes tt
 T? false = no (λ t. t)
@@ -56,6 +66,11 @@ pub one : (a b : Bool) → T a ⊎ T b → T (a || b)
 one true b t = tt
 one false b (inl t) = absurd t
 one false b (inr t) = t
+
+-- what follows from either
+pub either : {X : Type 0} (a b : Bool) → (T a → X) → (T b → X) → T (a || b) → X
+either true b f g t = f t
+either false b f g t = g t
 
 pub one→ : (a b : Bool) → T (a || b) → T a ⊎ T b
 one→ true b t = inl tt

@@ -36,11 +36,11 @@ headingRules s =
 unfoldable pub wrongRoutine : List ℕ → ℕ → Bool
 wrongRoutine s i = not (ltb (nodeAt s i .routine) (countF s))
 
--- 9: "kind over 4"
+-- 9: "kind over 4 in version 1, over 9 in version 2"
 unfoldable pub wrongKind : List ℕ → ℕ → Bool
 wrongKind s i = leb (kindsOf (versionOf s)) (nodeAt s i .kind)
 
--- 10: "kind 0 or 4 with a location other than 0"
+-- 10: "kind 0, 4, 7 or 8 with a location other than 0"
 unfoldable pub wrongLocation : List ℕ → ℕ → Bool
 wrongLocation s i = hasNoLocation (nodeAt s i .kind) && not (eqb (nodeAt s i .location) 0)
 

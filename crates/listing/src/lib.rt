@@ -43,7 +43,17 @@ pub const RMW: u8 = 3;
 
 pub const FENCE: u8 = 4;
 
-pub const KINDS: usize = 5;
+pub const ACQUIRE: u8 = 5;
+
+pub const RELEASE: u8 = 6;
+
+pub const LOAD_FENCE: u8 = 7;
+
+pub const STORE_FENCE: u8 = 8;
+
+pub const ACQUIRE_PC: u8 = 9;
+
+pub const KINDS: usize = 10;
 
 // A successor that is none.
 pub const NONE: u8 = 255;
@@ -64,13 +74,19 @@ pub fn wide(b: u8) -> usize
 pub fn is_version(version: usize) -> bool
     ensures { λ r. ⌜ r ≡ isVersion version ⌝ }
 {
-    version == 1
+    if version == 1 {
+        return true;
+    }
+    version == 2
 }
 
 // How many kinds, from 0 on, a version admits.
 pub fn kinds_of(version: usize) -> usize
     ensures { λ r. ⌜ r ≡ kindsOf version ⌝ }
 {
+    if version == 1 {
+        return 5;
+    }
     KINDS
 }
 
@@ -81,7 +97,13 @@ pub fn has_no_location(kind: u8) -> bool
     if kind == PLAIN {
         return true;
     }
-    kind == FENCE
+    if kind == FENCE {
+        return true;
+    }
+    if kind == LOAD_FENCE {
+        return true;
+    }
+    kind == STORE_FENCE
 }
 
 // The heading's version.

@@ -34,7 +34,9 @@ fn headings() {
     case(b"mark ARD", b"ARD\x01\x00\x01\x00");
     case(b"mark OAD", b"OAD\x01\x00\x01\x00");
     case(b"mark ORA", b"ORA\x01\x00\x01\x00");
+    case(b"version 0", b"ORD\x00\x00\x01\x00");
     case(b"version 2", b"ORD\x02\x00\x01\x00");
+    case(b"version 3", b"ORD\x03\x00\x01\x00");
     case(b"version 257", b"ORD\x01\x01\x01\x00");
     case(b"F = 0", b"ORD\x01\x00\x00\x00");
     case(b"F = 16", b"ORD\x01\x00\x10\x00");
@@ -46,6 +48,30 @@ fn headings() {
     case(
         b"one byte too many",
         b"ORD\x01\x00\x01\x01\x00\x00\x00\x00\xFF\xFF\x00",
+    );
+}
+
+// One record of either version: the kinds that it admits, and which of them have a location.
+fn versions() {
+    case(
+        b"kind 9 in version 2",
+        b"ORD\x02\x00\x01\x01\x00\x09\x01\x00\xFF\xFF",
+    );
+    case(
+        b"kind 10 in version 2",
+        b"ORD\x02\x00\x01\x01\x00\x0A\x00\x00\xFF\xFF",
+    );
+    case(
+        b"load fence with a location, version 1",
+        b"ORD\x01\x00\x01\x01\x00\x07\x01\x00\xFF\xFF",
+    );
+    case(
+        b"load fence with a location, version 2",
+        b"ORD\x02\x00\x01\x01\x00\x07\x01\x00\xFF\xFF",
+    );
+    case(
+        b"store fence with a location, version 2",
+        b"ORD\x02\x00\x01\x01\x00\x08\x00\x80\xFF\xFF",
     );
 }
 
@@ -162,6 +188,7 @@ fn sizes() {
 fn main() {
     headings();
     records();
+    versions();
     successors();
     two_records();
     case(

@@ -7,13 +7,16 @@ ghost use Rattle.order.specs.Walks.{kindAt};
 ghost use Rattle.rows.specs.Inner.Rows.{Members};
 ghost use Rattle.meetings.specs.Inner.Picked.{picked};
 
-// Which nodes to gather.
+// Which nodes to gather: all; accesses; writes and RMWs; those of one kind; those that a pair can start with for the fence to look at it,
+// and those that it can't end with; those that are no barrier for such pairs.
 pub enum Pick {
     Every,
     Access,
     Writer,
-    Exchange,
-    Passable { class: usize },
+    Kind { kind: u8 },
+    First { fence: u8 },
+    Other { fence: u8 },
+    Passable { fence: u8 },
 }
 
 // Whether a node of this kind belongs.
@@ -24,8 +27,10 @@ fn picks(question: u8, pick: Pick, kind: u8) -> bool
         Pick::Every => true,
         Pick::Access => order::is_access(kind),
         Pick::Writer => order::is_writer(kind),
-        Pick::Exchange => kind == listing::RMW,
-        Pick::Passable { class } => !order::bars(question, class, kind),
+        Pick::Kind { kind: only } => kind == only,
+        Pick::First { fence } => order::looks_first(fence, kind),
+        Pick::Other { fence } => !order::looks_second(fence, kind),
+        Pick::Passable { fence } => !order::bars(question, fence, kind),
     }
 }
 

@@ -5,6 +5,7 @@ use lib.Dec.{T}
 use Rattle.order.specs.Rows.{All}
 use Rattle.order.specs.Patched.{patched}
 use Rattle.order.specs.Cases.{Case, cases, shortcuts, Right}
+use Rattle.order.specs.Armv8.{armv8}
 use Rattle.order.proofs.Lists.{every, in-all, all-in}
 use Rattle.order.proofs.Tests.{every-checked}
 use Rattle.order.proofs.Check.{check, checked}
@@ -30,8 +31,59 @@ shortcuts-pass = (tt, (tt, tt))
 cases-pass : Pass cases
 cases-pass = (tt, (tt, (tt, (tt, (tt, (tt, (tt, (tt, (tt, (tt, (tt, (tt, (tt, (tt, (tt, (tt, (tt, (tt, (tt, (tt, (tt, (tt, (tt, tt)))))))))))))))))))))))
 
+armv8-pass : Pass armv8
+armv8-pass = (
+  tt,
+  (
+    tt,
+    (
+      tt,
+      (
+        tt,
+        (
+          tt,
+          (
+            tt,
+            (
+              tt,
+              (
+                tt,
+                (
+                  tt,
+                  (
+                    tt,
+                    (
+                      tt,
+                      (
+                        tt,
+                        (
+                          tt,
+                          (
+                            tt,
+                            (
+                              tt,
+                              (tt, (tt, (tt, (tt, (tt, (tt, (tt, (tt, (tt, (tt, (tt, (tt, (tt, tt))))))))))))),
+                            ),
+                          ),
+                        ),
+                      ),
+                    ),
+                  ),
+                ),
+              ),
+            ),
+          ),
+        ),
+      ),
+    ),
+  ),
+)
+
 pub shortcuts-right : All (All Right) shortcuts
 shortcuts-right = all-right shortcuts shortcuts-pass
+
+pub armv8-right : All (All Right) armv8
+armv8-right = all-right armv8 armv8-pass
 
 -- EVERY ROW OF THE TABLE IS RIGHT
 pub cases-right : All (All Right) cases

@@ -11,7 +11,7 @@ use Rattle.listing.specs.Node.{Listing, node}
 use Rattle.order.specs.Rows.{All, In, some}
 use Rattle.order.specs.Walks.{kindAt, locAt, isAccess, countsRmw, Access, Next, Succ, Walk}
 use Rattle.order.specs.Chains.{meets, surely, Ends, IsPair, Chain}
-use Rattle.order.specs.Need.{question, Entry, need, leave, leaveUnlessRmw, entry, RmwInside, Says, Needs, classAt, bars, Unbarred}
+use Rattle.order.specs.Need.{question, Entry, need, leave, leaveUnlessRmw, entry, RmwInside, Says, Needs, bars, Unbarred}
 use Rattle.order.specs.Verdict.{Fails}
 use Rattle.listing.proofs.Bools.{both, both→, T?}
 use Rattle.order.proofs.Lists.{all-in, in-all, in-left, in-right, Cut, cut, row-join, row-before, row-after, row-map}
@@ -202,7 +202,7 @@ chain-complete L p (y ∷ ys) c =
 
 -- ── Failing pairs ───────────────────────────────────────────────────────────
 abbrev pub free? : ℕ → Listing → ℕ → ℕ → ℕ → Bool
-free? q L a b c = not (bars (question q) (classAt L a b) (kindAt L c))
+free? q L a b c = not (bars (question q) (kindAt L a) (kindAt L b) (kindAt L c))
 
 abbrev pub unbarred? : ℕ → Listing → ℕ → ℕ → Bool
 unbarred? q L a b = walk? L (free? q L a b) a b
@@ -211,7 +211,7 @@ module _ (q : ℕ) (L : Listing) (a b : ℕ) where
   free-checked : (xs : List ℕ) → All (λ c. T (free? q L a b c)) xs ↔ Unbarred q L a b xs
   free-checked [] = (λ h. h, λ h. h)
   free-checked (c ∷ xs) =
-      let t = bars (question q) (classAt L a b) (kindAt L c) in
+      let t = bars (question q) (kindAt L a) (kindAt L b) (kindAt L c) in
       let i = free-checked xs in
       (λ h. (T-not t (h .0), i .0 (h .1)), λ h. (not-T t (h .0), i .1 (h .1)))
 

@@ -7,7 +7,7 @@ use Rattle.listing.specs.Node.{Listing}
 use Rattle.order.specs.Rows.{All, In, Some, Row}
 use Rattle.order.specs.Walks.{kindAt, locAt}
 use Rattle.order.specs.Chains.{surely, SurelyMeet, Ends, IsPair, Joined, Chain}
-use Rattle.order.specs.Need.{question, classAt, bars, Barrier, Unbarred}
+use Rattle.order.specs.Need.{question, bars, Barrier, Unbarred}
 use Rattle.order.specs.Verdict.{Robust}
 use Rattle.order.specs.Steps.{Step, ends, Hop, Ring, InOrder, Free, Ordered}
 use Rattle.listing.proofs.Bools.{T?}
@@ -35,7 +35,7 @@ Barred q L a b xs = (c : ℕ) × In c xs × Barrier q L a b c
 -- or none is
 barred? : (q : ℕ) (L : Listing) (a b : ℕ) (xs : List ℕ) → Barred q L a b xs ⊎ Unbarred q L a b xs
 barred? q L a b [] = inr tt
-barred? q L a b (x ∷ xs) = go (T? (bars (question q) (classAt L a b) (kindAt L x))) (barred? q L a b xs)
+barred? q L a b (x ∷ xs) = go (T? (bars (question q) (kindAt L a) (kindAt L b) (kindAt L x))) (barred? q L a b xs)
   where
     go : Dec (Barrier q L a b x) → Barred q L a b xs ⊎ Unbarred q L a b xs → Barred q L a b (x ∷ xs) ⊎ Unbarred q L a b (x ∷ xs)
     go (yes t) r = inl (x, inl refl, t)

@@ -1,15 +1,13 @@
 -- The entries of the need-for-order table, read from their numbers.
 use mathlib.Core.Path.{_≡_, refl}
-use mathlib.Core.Logic.{_⊎_, inl, inr}
-use mathlib.Core.Bool.{Bool, true, false, cond, _&&_, _||_}
 use Prim.Native.Nat.{ℕ, _<_}
 use native.Mathlib.Omega.{arith}
-use lib.Dec.{T, eqb→eq}
-use Rattle.listing.specs.Kinds.{KINDS, READ, WRITE, RMW}
-use Rattle.listing.proofs.Bools.{one→}
-use Rattle.order.specs.Walks.{countsRead, countsWrite, countsRmw, isAccess}
-use Rattle.order.specs.Need.{question, Entry, need, leave, leaveUnlessRmw, entry}
-use Rattle.order.specs.Inner.Table.{entryOf, numberOf}
+use lib.Dec.{T, eqb, ltb, eqb→eq, ltb→lt}
+use Rattle.listing.specs.Kinds.{KINDS, READ, WRITE, RMW, ACQUIRE, RELEASE, ACQUIRE-PC}
+use Rattle.listing.proofs.Bools.{either}
+use Rattle.order.specs.Walks.{countsRead, countsWrite, isWriter, isAccess}
+use Rattle.order.specs.Need.{Entry, need, leave, leaveUnlessRmw}
+use Rattle.order.specs.Inner.Table.{numberOf}
 
 pub number-leave : (e : Entry) → numberOf e ≡ 0 → e ≡ leave
 number-leave leave h = refl
@@ -32,27 +30,12 @@ number-below leave = omega arith
 number-below need = omega arith
 number-below leaveUnlessRmw = omega arith
 
--- an access's kind is one of the table's
+-- AN ACCESS'S KIND IS ONE OF THE TABLE'S
 pub kind-below : (k : ℕ) → T (isAccess k) → k < KINDS
-kind-below k t = go (one→ (countsRead k) (countsWrite k || countsRmw k) t)
+kind-below k =
+    either (countsRead k) (isWriter k)
+    (either (eqb k READ) _ (is READ tt) (either (eqb k ACQUIRE) _ (is ACQUIRE tt) (is ACQUIRE-PC tt)))
+    (either (countsWrite k) _ (either (eqb k WRITE) _ (is WRITE tt) (is RELEASE tt)) (is RMW tt))
   where
-    later : T (countsWrite k) ⊎ T (countsRmw k) → k < KINDS
-    later (inl e) = omega (arith, eqb→eq k WRITE e)
-    later (inr e) = omega (arith, eqb→eq k RMW e)
-
-    go : T (countsRead k) ⊎ T (countsWrite k || countsRmw k) → k < KINDS
-    go (inl e) = omega (arith, eqb→eq k READ e)
-    go (inr e) = later (one→ (countsWrite k) (countsRmw k) e)
-
-between : (x y : Bool) (e : Entry) → T x → T y → cond (x && y) e leave ≡ e
-between true y e s t = second y t
-  where
-    second : (b : Bool) → T b → cond b e leave ≡ e
-    second true u = refl
-    second false u = absurd u
-between false y e s t = absurd s
-
--- OF TWO ACCESSES THE CODE'S TABLE IS THE NEED-FOR-ORDER TABLE
-pub entry-of : (q k₁ k₂ : ℕ) → T (isAccess k₁) → T (isAccess k₂) → entryOf q k₁ k₂ ≡ entry (question q) k₁ k₂
-unfolding entryOf
-entry-of q k₁ k₂ s t = between (isAccess k₁) (isAccess k₂) (entry (question q) k₁ k₂) s t
+    is : (x : ℕ) → T (ltb x KINDS) → T (eqb k x) → k < KINDS
+    is x h e = omega (arith, eqb→eq k x e, ltb→lt x KINDS h)

@@ -3,7 +3,7 @@ use mathlib.Core.Path.{_≡_, refl, subst}
 use mathlib.Core.Logic.{inl, inr}
 use mathlib.Core.HLevel.{×-discrete}
 use mathlib.Core.List.{List, [], _∷_}
-use mathlib.Core.Bool.{Bool, true, false, cond}
+use mathlib.Core.Bool.{Bool, true, false}
 use Prim.Native.Nat.{ℕ, _≤_, _<_}
 use native.Mathlib.Decide.{decLt, ℕ-discrete}
 use native.Mathlib.Omega.{arith}
@@ -14,7 +14,7 @@ use Rattle.listing.specs.Node.{Node, blank, Listing, node}
 use Rattle.order.specs.Rows.{In, Some}
 use Rattle.order.specs.Walks.{isAccess, isFence, Access, Walk}
 use Rattle.order.specs.Chains.{Ends, Enough}
-use Rattle.order.specs.Need.{Question, scOnX86, scOnArmv7, x86OnArmv7, armv8OnArmv7, question, CLASSES, classOf, bars}
+use Rattle.order.specs.Need.{Question, scOnX86, scOnArmv7, x86OnArmv7, armv8OnArmv7, scOnArmv8, x86OnArmv8, bars}
 
 pub ends-eq : Discrete Ends
 ends-eq = ×-discrete ℕ-discrete ℕ-discrete
@@ -46,28 +46,19 @@ walk-in L a (c ∷ xs) b w x (inl e) = omega (arith, e, w .0 .0)
 walk-in L a (c ∷ xs) b w x (inr i) = walk-in L c xs b (w .1) x i
 
 -- a full fence is a barrier under every question, whatever the ends
-pub bars-fence : (q : Question) (e : ℕ) → T (bars q e FENCE)
-bars-fence scOnX86 e = tt
-bars-fence scOnArmv7 e = tt
-bars-fence x86OnArmv7 e = tt
-bars-fence armv8OnArmv7 e = tt
+pub bars-fence : (q : Question) (k₁ k₂ : ℕ) → T (bars q k₁ k₂ FENCE)
+bars-fence scOnX86 k₁ k₂ = tt
+bars-fence scOnArmv7 k₁ k₂ = tt
+bars-fence x86OnArmv7 k₁ k₂ = tt
+bars-fence armv8OnArmv7 k₁ k₂ = tt
+bars-fence scOnArmv8 k₁ k₂ = tt
+bars-fence x86OnArmv8 k₁ k₂ = tt
 
 -- a plain node is none
-pub bars-plain : (q : Question) (e : ℕ) → T (bars q e PLAIN) → ⊥
-bars-plain scOnX86 e t = t
-bars-plain scOnArmv7 e t = t
-bars-plain x86OnArmv7 e t = t
-bars-plain armv8OnArmv7 e t = t
-
--- but for SC on x86 a full fence is the only one
-pub bars-else : (q e k : ℕ) → eqb q 1 ≡ false → bars (question q) e k ≡ isFence k
-bars-else q e k h = rw h (others (eqb q 2) (eqb q 3))
-  where
-    others : (x y : Bool) → bars (cond x scOnArmv7 (cond y x86OnArmv7 armv8OnArmv7)) e k ≡ isFence k
-    others true y = refl
-    others false true = refl
-    others false false = refl
-
--- every pair of kinds has a class
-pub class-below : (k₁ k₂ : ℕ) → classOf k₁ k₂ < CLASSES
-class-below k₁ k₂ = omega arith
+pub bars-plain : (q : Question) (k₁ k₂ : ℕ) → T (bars q k₁ k₂ PLAIN) → ⊥
+bars-plain scOnX86 k₁ k₂ t = t
+bars-plain scOnArmv7 k₁ k₂ t = t
+bars-plain x86OnArmv7 k₁ k₂ t = t
+bars-plain armv8OnArmv7 k₁ k₂ t = t
+bars-plain scOnArmv8 k₁ k₂ t = t
+bars-plain x86OnArmv8 k₁ k₂ t = t

@@ -7,6 +7,7 @@ pub mod Keys
 pub mod Laws
 pub mod Meeting
 pub mod Entries
+pub mod Ends
 pub mod Rounds
 pub mod Least
 pub mod DemandThree
@@ -25,3 +26,4 @@ pub mod Decide
 pub mod Check
 pub mod Exists
 pub mod Cases
+pub mod OldKinds

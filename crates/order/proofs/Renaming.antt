@@ -8,7 +8,7 @@ use Rattle.listing.specs.Node.{Listing}
 use Rattle.order.specs.Rows.{All}
 use Rattle.order.specs.Walks.{kindAt, locAt, countsRmw, isWriter, isAccess, Access, Walk}
 use Rattle.order.specs.Chains.{overlap, written, MayMeet, surely, SurelyMeet, Ends, IsPair, Joined, Chain}
-use Rattle.order.specs.Need.{question, Entry, need, leave, leaveUnlessRmw, entry, RmwInside, Says, Needs, classOf, classAt, bars, Unbarred}
+use Rattle.order.specs.Need.{question, Entry, need, leave, leaveUnlessRmw, entry, RmwInside, Says, Needs, bars, Unbarred}
 use Rattle.order.proofs.Laws.{enough-kept, bars-fence, bars-plain}
 use Rattle.order.proofs.Meeting.{writer-access, written-checked, meets-written}
 use Rattle.order.proofs.Mapped.{some-mapped, all-mapped, all-from, mapped-different, different-mapped, row-mapped}
@@ -95,9 +95,10 @@ module _ {f : ℕ → ℕ} {Open : ℕ → List ℕ → Type 0} {L M : Listing} 
 
     pub unbarred-same : (q : ℕ) (xs ys : List ℕ) → Inside L M xs ys (Open a xs) → (Unbarred q L a b xs × Open a xs) ↔ Unbarred q M (f a) (f b) ys
     unbarred-same q xs ys i =
-        subst₂ (λ (j k : ℕ). (Unbarred q L a b xs × Open a xs) ↔ All (λ d. T (bars (question q) (classOf j k) (kindAt M d)) → ⊥) ys)
+        subst₂ (λ (j k : ℕ). (Unbarred q L a b xs × Open a xs) ↔ All (λ d. T (bars (question q) j k (kindAt M d)) → ⊥) ys)
         (sym (r .kind a s)) (sym (r .kind b t))
-        (inside-no i (λ k. T (bars (question q) (classAt L a b) k)) (bars-plain (question q) (classAt L a b)) (bars-fence (question q) (classAt L a b)))
+        (inside-no i (λ k. T (bars (question q) (kindAt L a) (kindAt L b) k))
+        (bars-plain (question q) (kindAt L a) (kindAt L b)) (bars-fence (question q) (kindAt L a) (kindAt L b)))
 
   -- ── Pairs and chains ────────────────────────────────────────────────────────
   pair-there : (p : Ends) → IsPair L p → IsPair M (rename f p)

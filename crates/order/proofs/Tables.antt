@@ -1,4 +1,4 @@
--- A rule of a table, of any entries and so of tables in tables, proved at all of its entries by one test that is computed.
+-- A rule of a table, proved at all of its entries by one test that is computed.
 use mathlib.Core.Path.{_≡_, subst, sym, _∙_}
 use mathlib.Core.Bool.{Bool, true, _&&_}
 use mathlib.Core.List.{List, [], _∷_}
@@ -28,27 +28,16 @@ module _ {A : Type 0} (f : ℕ → A → Bool) (d : A) where
   at : (xs : List A) → T (everyFrom f 0 xs) → (k : ℕ) → k < length xs → T (f k (getD xs k d))
   at xs t k h = subst (λ (m : ℕ). T (f m (getD xs k d))) (zero-add k) (from xs 0 t k h)
 
--- three deep, n by m by k: a rule of three numbers, by one test
-module _ (n m k : ℕ) (rule : ℕ → ℕ → ℕ → ℕ) where
-  abbrev cell : ℕ → ℕ → ℕ → ℕ → Bool
-  cell q a b x = eqb x (rule q a b)
+-- the entries' rule by their places, as one test
+module _ (rule : ℕ → ℕ) where
+  abbrev cell : ℕ → ℕ → Bool
+  cell i x = eqb x (rule i)
 
-  abbrev row : ℕ → ℕ → List ℕ → Bool
-  row q a l = eqb (length l) k && everyFrom (cell q a) 0 l
-
-  abbrev plane : ℕ → List (List ℕ) → Bool
-  plane q l = eqb (length l) m && everyFrom (row q) 0 l
-
-  abbrev pub right-all : List (List (List ℕ)) → Bool
-  right-all l = eqb (length l) n && everyFrom plane 0 l
+  abbrev pub right-all : ℕ → List ℕ → Bool
+  right-all n l = eqb (length l) n && everyFrom cell 0 l
 
   -- A TABLE THAT PASSES THE TEST HAS THE RULE AT EVERY ENTRY
-  pub right-at : (t : List (List (List ℕ))) (d₁ : List (List ℕ)) (d₂ : List ℕ) → T (right-all t)
-      → (q a b : ℕ) → q < n → a < m → b < k → getD (getD (getD t q d₁) a d₂) b 0 ≡ rule q a b
-  right-at t d₁ d₂ ok q a b hq ha hb =
-      let p₁ = getD t q d₁ in
-      let p₂ = getD p₁ a d₂ in
-      let o = sized (length t) n (everyFrom plane 0 t) ok in
-      let p = sized (length p₁) m (everyFrom (row q) 0 p₁) (at plane d₁ t (o .1) q (rw (o .0) hq)) in
-      let r = sized (length p₂) k (everyFrom (cell q a) 0 p₂) (at (row q) d₂ p₁ (p .1) a (rw (p .0) ha)) in
-      eqb→eq (getD p₂ b 0) (rule q a b) (at (cell q a) 0 p₂ (r .1) b (rw (r .0) hb))
+  pub right-at : (n : ℕ) (t : List ℕ) → T (right-all n t) → (i : ℕ) → i < n → getD t i 0 ≡ rule i
+  right-at n t ok i h =
+      let o = sized (length t) n (everyFrom cell 0 t) ok in
+      eqb→eq (getD t i 0) (rule i) (at cell 0 t (o .1) i (rw (o .0) h))

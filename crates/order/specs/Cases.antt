@@ -14,21 +14,21 @@ pub record Case : Type 0 where
   pub map : Marks
   pub verdict : Verdict
 
-abbrev of : ℕ → Listing → Marks → Verdict → Case
+abbrev pub of : ℕ → Listing → Marks → Verdict → Case
 of q L ms v = record { question = q; listing = L; map = ms; verdict = v }
 
 -- "routine [..], kind [..], location [..], first successor [..], second successor"
-abbrev at : ℕ → ℕ → ℕ → ℕ → ℕ → Node
+abbrev pub at : ℕ → ℕ → ℕ → ℕ → ℕ → Node
 at r k l f s = record { routine = r; kind = k; location = l; first = f; second = s }
 
 -- "Cells: x = 1, y = 2, z = 3"
-abbrev x : ℕ
+abbrev pub x : ℕ
 x = 1
 
-abbrev y : ℕ
+abbrev pub y : ℕ
 y = 2
 
-abbrev z : ℕ
+abbrev pub z : ℕ
 z = 3
 
 abbrev w : ℕ
@@ -83,7 +83,7 @@ caseL = at 0 WRITE 0 1 none ∷ at 0 WRITE 0 none none ∷ []
 
 -- ── Where somebody writes a cell that is read, or nobody does ───────────────
 -- one node more, "a routine of [..] own": r
-abbrev also : ℕ → ℕ → ℕ → Listing → Listing
+abbrev pub also : ℕ → ℕ → ℕ → Listing → Listing
 also r k l L = L ++ (at r k l none none ∷ [])
 
 -- "K and 2 write y"
@@ -104,36 +104,43 @@ bothUnknown = at 0 READ 0 1 none ∷ at 0 READ 0 none none ∷ at 1 READ 0 3 non
 
 -- ── The answers ─────────────────────────────────────────────────────────────
 -- "OPEN 0 1, chain 0-1 2-3", and "OPEN 2 3, chain 2-3 0-1"
-abbrev forth : Verdict
+abbrev pub forth : Verdict
 forth = opened (0, 1) ((2, 3) ∷ [])
 
-abbrev back : Verdict
+abbrev pub back : Verdict
 back = opened (2, 3) ((0, 1) ∷ [])
+
+-- "OPEN 0 1, chain 0-1 4-5", and "OPEN 0 2, chain 0-2 3-5"
+abbrev first : Verdict
+first = opened (0, 1) ((4, 5) ∷ [])
+
+abbrev pub around : Verdict
+around = opened (0, 2) ((3, 5) ∷ [])
 
 -- "all: ROBUST"
 abbrev always : Listing → List Case
-always L = of 1 L [] robust ∷ of 2 L [] robust ∷ of 3 L [] robust ∷ of 4 L [] robust ∷ []
+always L = of 1 L [] robust ∷ of 2 L [] robust ∷ of 3 L [] robust ∷ of 4 L [] robust ∷ of 5 L [] robust ∷ of 6 L [] robust ∷ []
 
--- "1: ROBUST; 2, 3 and 4: OPEN 0 1, chain 0-1 2-3"
+-- "1: ROBUST; 2 to 6: OPEN 0 1, chain 0-1 2-3"
 abbrev onArm : Listing → List Case
-onArm L = of 1 L [] robust ∷ of 2 L [] forth ∷ of 3 L [] forth ∷ of 4 L [] forth ∷ []
+onArm L = of 1 L [] robust ∷ of 2 L [] forth ∷ of 3 L [] forth ∷ of 4 L [] forth ∷ of 5 L [] forth ∷ of 6 L [] forth ∷ []
 
 -- every question that the rules answer for them, one line a listing
 abbrev pub cases : List (List Case)
 cases =
-    (of 1 caseA [] forth ∷ of 3 caseA [] robust ∷ of 4 caseA [] robust ∷ [])
+    (of 1 caseA [] forth ∷ of 3 caseA [] robust ∷ of 4 caseA [] robust ∷ of 5 caseA [] forth ∷ of 6 caseA [] robust ∷ [])
     ∷ onArm caseB
-    ∷ (of 1 caseC [] robust ∷ of 3 caseC [] forth ∷ of 4 caseC [] back ∷ [])
-    ∷ (of 1 caseA mapD back ∷ [])
-    ∷ (of 1 caseA mapE robust ∷ of 2 caseA mapE robust ∷ [])
-    ∷ (of 1 caseG [] robust ∷ of 3 caseG [] (opened (0, 1) ((4, 5) ∷ [])) ∷ of 4 caseG [] (opened (1, 2) ((3, 4) ∷ [])) ∷ [])
-    ∷ (of 1 caseF [] robust ∷ of 3 caseF [] (opened (0, 2) ((3, 5) ∷ [])) ∷ [])
-    ∷ (of 1 caseH [] (opened (0, 2) ((3, 5) ∷ [])) ∷ [])
-    ∷ (of 1 (caseJ block) [] forth ∷ [])
+    ∷ (of 1 caseC [] robust ∷ of 3 caseC [] forth ∷ of 4 caseC [] back ∷ of 5 caseC [] forth ∷ of 6 caseC [] forth ∷ [])
+    ∷ (of 1 caseA mapD back ∷ of 5 caseA mapD back ∷ of 6 caseA mapD robust ∷ [])
+    ∷ (of 1 caseA mapE robust ∷ of 2 caseA mapE robust ∷ of 5 caseA mapE robust ∷ of 6 caseA mapE robust ∷ [])
+    ∷ (of 1 caseG [] robust ∷ of 3 caseG [] first ∷ of 4 caseG [] (opened (1, 2) ((3, 4) ∷ [])) ∷ of 5 caseG [] first ∷ of 6 caseG [] first ∷ [])
+    ∷ (of 1 caseF [] robust ∷ of 3 caseF [] around ∷ of 5 caseF [] around ∷ of 6 caseF [] around ∷ [])
+    ∷ (of 1 caseH [] around ∷ of 5 caseH [] around ∷ of 6 caseH [] robust ∷ [])
+    ∷ (of 1 (caseJ block) [] forth ∷ of 5 (caseJ block) [] forth ∷ of 6 (caseJ block) [] robust ∷ [])
     ∷ (of 1 (caseJ x) [] robust ∷ [])
     ∷ always caseK
-    ∷ (of 2 caseL [] robust ∷ [])
-    ∷ (of 1 writtenK [] (opened (0, 1) ((1, 0) ∷ [])) ∷ [])
+    ∷ (of 2 caseL [] robust ∷ of 5 caseL [] robust ∷ of 6 caseL [] robust ∷ [])
+    ∷ (of 1 writtenK [] (opened (0, 1) ((1, 0) ∷ [])) ∷ of 5 writtenK [] (opened (0, 1) ((1, 0) ∷ [])) ∷ of 6 writtenK [] (opened (1, 0) ((0, 1) ∷ [])) ∷ [])
     ∷ always readers
     ∷ always (also 2 WRITE x readers)
     ∷ onArm (also 3 RMW y (also 2 WRITE x readers))

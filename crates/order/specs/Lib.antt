@@ -8,4 +8,5 @@ pub mod Patched
 pub mod With
 pub mod Proposed
 pub mod Cases
+pub mod Armv8
 pub mod Inner

@@ -6,7 +6,7 @@ use mathlib.Core.Bool.{Bool, _||_}
 use Prim.Native.Nat.{ℕ, _<_}
 use lib.Dec.{T, eqb}
 use lib.ListN.{length}
-use Rattle.listing.specs.Kinds.{READ, WRITE, RMW, FENCE}
+use Rattle.listing.specs.Kinds.{READ, WRITE, RMW, FENCE, ACQUIRE, RELEASE, ACQUIRE-PC}
 use Rattle.listing.specs.Node.{Node, Listing, node}
 use Rattle.order.specs.Rows.{Row}
 
@@ -16,12 +16,12 @@ kindAt L a = node L a .kind
 abbrev pub locAt : Listing → ℕ → ℕ
 locAt L a = node L a .location
 
--- what counts as a read, as a write, and as an RMW
+-- "Kinds 1, 5 and 9 count as reads, 2 and 6 as writes, 3 as an RMW, which is neither"
 abbrev pub countsRead : ℕ → Bool
-countsRead k = eqb k READ
+countsRead k = eqb k READ || (eqb k ACQUIRE || eqb k ACQUIRE-PC)
 
 abbrev pub countsWrite : ℕ → Bool
-countsWrite k = eqb k WRITE
+countsWrite k = eqb k WRITE || eqb k RELEASE
 
 abbrev pub countsRmw : ℕ → Bool
 countsRmw k = eqb k RMW
@@ -30,10 +30,11 @@ countsRmw k = eqb k RMW
 abbrev pub isWriter : ℕ → Bool
 isWriter k = countsWrite k || countsRmw k
 
--- "Kinds 1 to 3 are accesses"
+-- "Kinds 1 to 3, 5, 6 and 9 are accesses"
 abbrev pub isAccess : ℕ → Bool
 isAccess k = countsRead k || isWriter k
 
+-- "full fence"
 abbrev pub isFence : ℕ → Bool
 isFence k = eqb k FENCE
 

@@ -31,7 +31,12 @@ fn kind(kind: u8, location: usize) {
         listing::READ => access(b"read", location),
         listing::WRITE => access(b"write", location),
         listing::RMW => access(b"read-modify-write", location),
-        _ => text(b"fence"),
+        listing::FENCE => text(b"fence"),
+        listing::ACQUIRE => access(b"acquire read", location),
+        listing::RELEASE => access(b"release write", location),
+        listing::LOAD_FENCE => text(b"load fence"),
+        listing::STORE_FENCE => text(b"store fence"),
+        _ => access(b"acquirePC read", location),
     }
 }
 

@@ -6,16 +6,16 @@ use crate::text;
 // The refusal table's words.
 pub fn reason(number: u8) {
     match number {
-        1 => text(b"question not 1 to 4"),
+        1 => text(b"question not 1 to 6"),
         2 => text(b"fewer than 7 bytes"),
         3 => text(b"mark wrong"),
-        4 => text(b"version not 1"),
+        4 => text(b"version not 1 or 2"),
         5 => text(b"F is 0 or over 16"),
         6 => text(b"N over 128"),
         7 => text(b"length not 7 + 6N"),
         8 => text(b"node's routine not below F"),
-        9 => text(b"kind over 4"),
-        10 => text(b"kind 0 or 4 with a location other than 0"),
+        9 => text(b"kind over 4 in version 1, over 9 in version 2"),
+        10 => text(b"kind 0, 4, 7 or 8 with a location other than 0"),
         11 => text(b"successor neither 255 nor below N, or in another routine"),
         12 => text(b"second successor without a first, or not larger than it"),
         13 => text(b"map length not N"),

@@ -8,15 +8,11 @@ use borrow.Author.Count.{below-more}
 use Rattle.rows.specs.Inner.Rows.{Has, Holds, Low}
 use Rattle.rows.specs.Inner.Touched.{Removed, Poured, Sifted, Emptied}
 use Rattle.rows.specs.Inner.Growing.{RowGrown, RowsDone}
+use Rattle.rows.specs.Inner.Thinned.{Thinned}
 use Rattle.reach.specs.Inner.Whole.{StartsIn, EndsIn, Among}
 use Rattle.rows.proofs.Places.{row-or-rest}
 use Rattle.rows.proofs.OneRow.{poured-gives, poured-brings, sifted-gives, sifted-keeps}
 use Rattle.rows.proofs.Holds.{holds-map}
-
--- the rows below k are thinned
-pub record Thinned (P : ℕ → ℕ → Type 0) (w v : List ℕ) (k : ℕ) : Type 0 where
-  pub gives : (x y : ℕ) → y < 128 → Has v x y → Has w x y × (x < k → P x y)
-  pub keeps : (x y : ℕ) → y < 128 → Has w x y → P x y → Has v x y
 
 -- row k alone is thinned
 pub record Thins (P : ℕ → ℕ → Type 0) (v z : List ℕ) (k : ℕ) : Type 0 where

@@ -1,4 +1,5 @@
 pub mod Least
 pub mod Rows
 pub mod Touched
+pub mod Thinned
 pub mod Growing

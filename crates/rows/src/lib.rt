@@ -177,13 +177,20 @@ pub fn next(w: &[u64], a: usize, b: usize, n: usize) -> usize
 }
 
 // Keeps of w what u has too.
-pub fn keep_common(u: &[u64], w: &mut [u64])
+fn keep_common(u: &[u64], w: &mut [u64])
     requires { ⌜ length (now u) ≡ length (now w) ⌝ }
     ensures { λ _. ⌜ Common (now (u .entry)) (now (w .entry)) (now (w .exit)) ⌝ }
 {
     for i in 0..w.len() {
         w[i] = w[i] & u[i];
     }
+}
+
+// Keeps of the rows c what f has too.
+pub fn narrow(f: &[u64; WORDS], c: &mut [u64; WORDS])
+    ensures { λ _. ⌜ Common (now (f .entry)) (now (c .entry)) (now (c .exit)) ⌝ }
+{
+    keep_common(f, c);
 }
 
 // Whether row a has all that row k has.

@@ -1,20 +1,20 @@
 -- From the rows of who returns to the pairs that lie on a chain, and to those that no barrier bars either.
-use mathlib.Core.Path.{_≡_, sym, subst}
 use mathlib.Core.Logic.{_⊎_, inl, inr}
 use mathlib.Core.List.{List}
-use Prim.Native.Nat.{ℕ, _+_, _≤_, _<_}
+use Prim.Native.Nat.{ℕ, _≤_, _<_}
 use native.Mathlib.Omega.{arith}
 use Rattle.listing.specs.Node.{Listing}
-use Rattle.order.specs.Walks.{kindAt, Pair}
+use Rattle.order.specs.Walks.{Pair}
 use Rattle.order.specs.Chains.{IsPair}
-use Rattle.order.specs.Need.{CLASSES, classAt}
-use Rattle.order.proofs.Laws.{class-below}
 use Rattle.rows.specs.Inner.Rows.{Has, Holds}
 use Rattle.rows.specs.Inner.Touched.{Common}
-use Rattle.rows.proofs.Holds.{holds-map}
+use Rattle.rows.specs.Inner.Thinned.{Thinned}
+use Rattle.rows.proofs.Holds.{holds-low, holds-map}
+use Rattle.reach.proofs.Thinned.{thinned-all}
 use Rattle.suspects.specs.Inner.Back.{ComesRound, Home, Returns, RowReturns}
 use Rattle.meetings.specs.Inner.Meeting.{Meeting}
-use Rattle.suspects.specs.Inner.Suspect.{ClearOf, Clear, OnChain, Suspect}
+use Rattle.barriers.specs.Inner.Clear.{Clear}
+use Rattle.suspects.specs.Inner.Suspect.{OnChain, Suspect}
 use Rattle.meetings.proofs.Counted.{Counted, access-below}
 use Rattle.suspects.proofs.OnChain.{chain-returns, returns-chain}
 
@@ -53,31 +53,8 @@ module _ {L : Listing} {n : ℕ} (few : Counted L n) {p m w : List ℕ}
         k .keeps a b (omega arith) (hc .whole a b la lb r) (hp .whole a b la lb h);
   }
 
--- on a chain, and with a walk that no barrier bars if the class of its ends is below k
-abbrev pub ClearBelow : ℕ → Listing → ℕ → ℕ → ℕ → Type 0
-ClearBelow q L k a b = OnChain L a b × (classAt L a b < k → Clear q L a b)
-
-module _ (q : ℕ) {L : Listing} {n : ℕ} (few : Counted L n) where
-  pub clear-none : {c : List ℕ} → Holds c n (OnChain L) → Holds c n (ClearBelow q L 0)
-  clear-none = holds-map (λ a b la lb o. (o, λ l. absurd (omega arith))) (λ a b la lb g. g .0)
-
-  -- one class more: every pair is of it, since there is no other
-  pub clear-more : (k : ℕ) → k < CLASSES → {f c c′ : List ℕ} → Holds f n (ClearOf q k L) → Holds c n (ClearBelow q L k) → Common f c c′
-      → Holds c′ n (ClearBelow q L (k + 1))
-  clear-more k lk hf hc o = record {
-    sound = λ a b l h.
-        let g = o .gives a b l h in
-        let x = hc .sound a b l (g .0) in
-        (x .0, x .1, (x .2 .0, λ m. subst (λ (e : ℕ). ClearOf q e L a b) (sym (one a b)) (hf .sound a b l (g .1) .2)));
-    whole = λ a b la lb s.
-        let clear = subst (λ (e : ℕ). ClearOf q e L a b) (one a b) (s .1 (omega arith)) in
-        o .keeps a b (omega arith) (hc .whole a b la lb (s .0, λ m. s .1 (omega arith))) (hf .whole a b la lb clear);
-  }
-    where
-      one : (a b : ℕ) → classAt L a b ≡ k
-      one a b = omega arith
-
-  -- SUSPECTS: on a chain, and no barrier on some walk
-  pub clear-all : {c : List ℕ} {k : ℕ} → CLASSES ≤ k → Holds c n (ClearBelow q L k) → Holds c n (Suspect q L)
-  clear-all h =
-      holds-map (λ a b la lb g. (g .0, g .1 (omega (arith, class-below (kindAt L a) (kindAt L b))))) (λ a b la lb s. (s .0, λ l. s .1))
+-- SUSPECTS: on a chain, and no barrier on some walk
+pub suspects-hold : (q : ℕ) {L : Listing} {n : ℕ} → n ≤ 128 → {c c′ : List ℕ} → Holds c n (OnChain L) → Thinned (Clear q L) c c′ n → Holds c′ n (Suspect q L)
+suspects-hold q small {c} {c′} hc t =
+    holds-map (λ a b la lb g. (hc .sound a b (omega arith) (g .0) .2, g .1)) (λ a b la lb s. (hc .whole a b la lb (s .0), s .1))
+    (thinned-all c c′ _ small (holds-low hc) t)

@@ -4,5 +4,4 @@ pub mod OnChain
 pub mod LeadingBack
 pub mod Returning
 pub mod Chained
-pub mod ClearWalks
 pub mod RmwInside

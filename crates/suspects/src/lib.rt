@@ -5,8 +5,7 @@ ghost use Rattle.listing.specs.Bytes.{countN, nodesOf};
 ghost use Rattle.listing.specs.Inner.Whole.{Whole};
 ghost use Rattle.order.specs.Walks.{Pair};
 ghost use Rattle.rows.specs.Inner.Rows.{Holds};
-ghost use Rattle.rows.specs.Inner.Touched.{Common};
-ghost use Rattle.suspects.specs.Inner.Suspect.{Reaches, ClearOf, Exchanged, OnChain, Suspect, Ready};
+ghost use Rattle.suspects.specs.Inner.Suspect.{Reaches, Exchanged, Ready};
 use meetings::Pick;
 use meetings::gather;
 use rows::WORDS;
@@ -32,16 +31,6 @@ fn pair_rows(bytes: &[u8], p: &mut [u64; WORDS])
     reach::restrict(listing::node_count(bytes), &accesses, p);
 }
 
-// Who walks to whom with no barrier inside, for ends of this class.
-fn clear_rows(question: u8, class: usize, bytes: &[u8], f: &mut [u64; WORDS])
-    requires { ⌜ Whole (now bytes) ⌝ }
-    ensures { λ _. ⌜ Holds (now (f .exit)) (countN (now (bytes .entry))) (ClearOf question class (nodesOf (now (bytes .entry)))) ⌝ }
-{
-    let mut free = [0u64; 2];
-    gather(question, bytes, Pick::Passable { class }, &mut free);
-    reach::walks(bytes, &free, f);
-}
-
 // Between which accesses some walk has an RMW inside. v is for the work: the pairs whose second node is an RMW.
 pub fn exchanged_rows(bytes: &[u8], p: &[u64; WORDS], v: &mut [u64; WORDS], i: &mut [u64; WORDS])
     requires { ⌜ Whole (now bytes) × Holds (now p) (countN (now bytes)) (Pair (nodesOf (now bytes))) ⌝ }
@@ -49,28 +38,9 @@ pub fn exchanged_rows(bytes: &[u8], p: &[u64; WORDS], v: &mut [u64; WORDS], i: &
 {
     let n = listing::node_count(bytes);
     let mut rmws = [0u64; 2];
-    gather(0, bytes, Pick::Exchange, &mut rmws);
+    gather(0, bytes, Pick::Kind { kind: listing::RMW }, &mut rmws);
     reach::columns(n, &rmws, p, v);
     reach::compose(n, v, p, i);
-}
-
-// Keeps of the rows c what f has too.
-fn narrow(f: &[u64; WORDS], c: &mut [u64; WORDS])
-    ensures { λ _. ⌜ Common (now (f .entry)) (now (c .entry)) (now (c .exit)) ⌝ }
-{
-    rows::keep_common(f, c);
-}
-
-// Keeps of the pairs on a chain those with a walk that no barrier bars, class by class. There is one class, and every pair is of it.
-// v is for the work: who walks to whom with no barrier inside.
-fn keep_clear(question: u8, bytes: &[u8], v: &mut [u64; WORDS], c: &mut [u64; WORDS])
-    requires { ⌜ Whole (now bytes) × Holds (now c) (countN (now bytes)) (OnChain (nodesOf (now bytes))) ⌝ }
-    ensures { λ _. ⌜ Holds (now (c .exit)) (countN (now (bytes .entry))) (Suspect question (nodesOf (now (bytes .entry)))) ⌝ }
-{
-    for class in 0..order::CLASSES {
-        clear_rows(question, class, bytes, v);
-        narrow(v, c);
-    }
 }
 
 // The pairs, who meets whom, and the suspects: the pairs on a chain with a walk that no barrier bars. i and v are for the work: i keeps who
@@ -92,6 +62,6 @@ pub fn suspects(
     meetings::meet_rows(bytes, m);
     returns::around_rows(bytes, p, m, v, c, i);
     returns::returns_rows(n, p, m, i, c);
-    narrow(p, c);
-    keep_clear(question, bytes, v, c);
+    rows::narrow(p, c);
+    barriers::keep_clear(question, bytes, v, c);
 }

@@ -1,49 +1,41 @@
 -- The nodes of a text's tree are of the kinds of version 1, and those of kinds 0 and 4 have location 0.
 use mathlib.Core.Path.{_≡_, refl, sym, subst}
-use mathlib.Core.Logic.{_⊎_, inl, inr}
-use mathlib.Core.Bool.{_||_}
 use mathlib.Core.List.{[], _∷_, _++_}
 use Prim.Native.Nat.{ℕ, _+_, _<_}
 use native.Mathlib.Omega.{arith}
-use lib.Dec.{T, eqb→eq}
-use Rattle.listing.specs.Kinds.{PLAIN, READ, WRITE, RMW, FENCE, KINDS, hasNoLocation}
+use lib.Dec.{T, eqb, eqb→eq}
+use Rattle.listing.specs.Kinds.{PLAIN, READ, WRITE, RMW, FENCE, kindsOf, hasNoLocation}
 use Rattle.listing.specs.Node.{Node, none}
-use Rattle.listing.proofs.Bools.{one→}
+use Rattle.listing.proofs.Bools.{either as any}
 use Rattle.words.specs.Words.{Routine, Open, Close}
 use Rattle.order.specs.Rows.{All}
-use Rattle.order.specs.Walks.{isAccess, countsRead, countsWrite, countsRmw}
 use Rattle.grammar.specs.Tree.{Item, access, fence, loop, either, Block, one, also, Text, nothing, part}
 use Rattle.grammar.specs.Tree.{itemWords, blockWords, wordsOf, blockSize, itemNodes, blockNodes, nodesOf, made, plain, partsOf, sizeOf}
 use Rattle.text.proofs.Every.{all-both, all-apart, of-plain, either-all, also-all}
-use Rattle.text.proofs.Said.{Said}
+use Rattle.text.proofs.Said.{isTyped, Said}
 
 -- a node that rules 9 and 10 let pass
 pub record Kinded (m : Node) : Type 0 where
-  pub kind : m .kind < KINDS
+  pub kind : m .kind < kindsOf 1
   pub location : T (hasNoLocation (m .kind)) → m .location ≡ 0
 
--- an access is a read, a write or an RMW
-of-access : (p : ℕ → Type 0) → p READ → p WRITE → p RMW → (k : ℕ) → T (isAccess k) → p k
-of-access p read write rmw k t = go (one→ (countsRead k) (countsWrite k || countsRmw k) t)
+-- an access that can be typed is of kind 1, 2 or 3
+of-typed : (p : ℕ → Type 0) → p READ → p WRITE → p RMW → (k : ℕ) → T (isTyped k) → p k
+of-typed p read write rmw k = any (eqb k READ) _ (is READ read) (any (eqb k WRITE) _ (is WRITE write) (is RMW rmw))
   where
-    later : T (countsWrite k) ⊎ T (countsRmw k) → p k
-    later (inl e) = subst p (sym (eqb→eq k WRITE e)) write
-    later (inr e) = subst p (sym (eqb→eq k RMW e)) rmw
+    is : (x : ℕ) → p x → T (eqb k x) → p k
+    is x h e = subst p (sym (eqb→eq k x e)) h
 
-    go : T (countsRead k) ⊎ T (countsWrite k || countsRmw k) → p k
-    go (inl e) = subst p (sym (eqb→eq k READ e)) read
-    go (inr e) = later (one→ (countsWrite k) (countsRmw k) e)
-
-access-kinded : (r k l next : ℕ) → T (isAccess k) → Kinded (made r k l next none)
+access-kinded : (r k l next : ℕ) → T (isTyped k) → Kinded (made r k l next none)
 access-kinded r k l next t =
-    of-access (λ j. Kinded (made r j l next none))
+    of-typed (λ j. Kinded (made r j l next none))
     (record { kind = omega arith; location = λ h. absurd h })
     (record { kind = omega arith; location = λ h. absurd h })
     (record { kind = omega arith; location = λ h. absurd h })
     k t
 
 -- kinds 0 and 4
-bare : (r k a b : ℕ) → k < KINDS → Kinded (made r k 0 a b)
+bare : (r k a b : ℕ) → k < kindsOf 1 → Kinded (made r k 0 a b)
 bare r k a b h = record { kind = h; location = λ _. refl }
 
 plain-kinded : (r a b : ℕ) → Kinded (plain r a b)

@@ -1,12 +1,11 @@
--- What words say: an access that a word says is a read, a write or an RMW.
-use mathlib.Core.Bool.{Bool, true, false, cond}
+-- What words say: an access that a word says is of kind 1, 2 or 3.
+use mathlib.Core.Bool.{Bool, true, false, cond, _||_}
 use mathlib.Core.List.{List, [], _∷_}
 use Prim.Native.Nat.{ℕ}
-use lib.Dec.{T}
+use lib.Dec.{T, eqb}
 use Rattle.listing.specs.Kinds.{READ, WRITE, RMW}
 use Rattle.words.specs.Words.{Token, Routine, Loop, Either, Open, Close, Fence, Access, Number, Other, Word, meaning}
 use Rattle.order.specs.Rows.{All}
-use Rattle.order.specs.Walks.{isAccess}
 use Rattle.grammar.specs.Stands.{saying}
 
 module _ (p : Token → Type 0) where
@@ -20,6 +19,10 @@ module _ (p : Token → Type 0) where
   unfolding meaning
   of-meaning routine loop either opens closes fence read write rmw number other w = search taken depth 12
 
+-- the kinds of accesses that can be typed
+abbrev pub isTyped : ℕ → Bool
+isTyped k = eqb k READ || (eqb k WRITE || eqb k RMW)
+
 abbrev pub Said : Token → Type 0
 Said Routine = Unit
 Said Loop = Unit
@@ -27,7 +30,7 @@ Said Either = Unit
 Said Open = Unit
 Said Close = Unit
 Said Fence = Unit
-Said (Access k) = T (isAccess k)
+Said (Access k) = T (isTyped k)
 Said (Number n) = Unit
 Said Other = Unit
 

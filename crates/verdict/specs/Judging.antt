@@ -17,7 +17,7 @@ use Rattle.order.specs.Verdict.{Verdict, robust, opened, Judged}
 use Rattle.verdict.specs.declared.JudgeAnswer.{JudgeAnswer}
 use Rattle.verdict.specs.declared.JudgeAnswer.the-variants.{Robust, Open, Refused}
 
--- "question not 1 to 4"
+-- "question not 1 to 6"
 unfoldable pub wrongQuestion : ℕ → Bool
 wrongQuestion q = not (leb 1 q && leb q QUESTIONS)
 

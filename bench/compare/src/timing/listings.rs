@@ -1,5 +1,5 @@
-//! A hundred full listings, twenty of each shape, each under every question. The lent buffer is cleared before every call, on
-//! both sides and within the time taken.
+//! Twenty full listings of each shape, each under every question. The lent buffer is cleared before every call, on both sides and
+//! within the time taken.
 
 use std::hint::black_box;
 use std::time::{Duration, Instant};

@@ -4,7 +4,8 @@ use native.Mathlib.Omega.{arith}
 use mathlib.Core.Path.{_≡_}
 use Prim.Native.Nat.{_≤_, _-_}
 use Rattle.rows.specs.Inner.Rows.{Has}
-use Rattle.reach.proofs.Thinned.{Thinned, thinned-none, thinned-more, thinned-all, sifts}
+use Rattle.rows.specs.Inner.Thinned.{Thinned}
+use Rattle.reach.proofs.Thinned.{thinned-none, thinned-more, thinned-all, sifts}
 use Rattle.reach.proofs.keep_columns.Statement.{statement}
 use Rattle.reach.proofs.keep_columns.Tie as tie
 

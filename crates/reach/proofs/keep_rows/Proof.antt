@@ -6,7 +6,8 @@ use mathlib.Core.Logic.{⊎-elim}
 use Prim.Native.Nat.{_≤_, _-_}
 use Rattle.rows.specs.Inner.Rows.{Has}
 use Rattle.rows.proofs.Tells.{tells-no, tells-yes}
-use Rattle.reach.proofs.Thinned.{Thinned, thinned-none, thinned-more, thinned-all, stays, drops}
+use Rattle.rows.specs.Inner.Thinned.{Thinned}
+use Rattle.reach.proofs.Thinned.{thinned-none, thinned-more, thinned-all, stays, drops}
 use Rattle.reach.proofs.keep_rows.Statement.{statement}
 use Rattle.reach.proofs.keep_rows.Tie as tie
 

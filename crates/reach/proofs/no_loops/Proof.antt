@@ -3,7 +3,8 @@ use borrow.Author.Needs.{needs}
 use native.Mathlib.Omega.{arith}
 use mathlib.Core.Path.{_≡_}
 use Prim.Native.Nat.{_≤_, _-_}
-use Rattle.reach.proofs.Thinned.{Thinned, thinned-none, thinned-more, thinned-all, parts}
+use Rattle.rows.specs.Inner.Thinned.{Thinned}
+use Rattle.reach.proofs.Thinned.{thinned-none, thinned-more, thinned-all, parts}
 use Rattle.reach.proofs.no_loops.Statement.{statement}
 use Rattle.reach.proofs.no_loops.Tie as tie
 

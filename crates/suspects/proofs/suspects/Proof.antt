@@ -2,7 +2,11 @@
 use borrow.Author.Needs.{needs}
 use native.Mathlib.Omega.{arith}
 use Rattle.meetings.proofs.Counted.{counted, low-at}
-use Rattle.suspects.proofs.Chained.{chain-hold}
+use Rattle.listing.specs.Bytes.{countN, nodesOf}
+use Rattle.rows.specs.Inner.Rows.{Holds}
+use Rattle.rows.proofs.Holds.{holds-low}
+use Rattle.suspects.specs.Inner.Suspect.{OnChain}
+use Rattle.suspects.proofs.Chained.{chain-hold, suspects-hold}
 use Rattle.suspects.proofs.suspects.Statement.{statement}
 use Rattle.suspects.proofs.suspects.Tie as tie
 
@@ -34,25 +38,34 @@ returns-rows-requires c κs =
 narrow-requires : tie.Need-narrow-requires
 narrow-requires c κs = search needs
 
-keep-clear-requires : tie.Need-keep-clear-requires
-keep-clear-requires c κs =
-    let kept = c .before .before in
+-- where it began
+abbrev start : tie.After-narrow → tie.Start
+start kept = met (around (kept .before .before .before .before)) .before .before .before .before .before .before
+
+-- the pairs on a chain
+chained : (kept : tie.After-narrow)
+    → let bytes = start kept .args .bytes .now in Holds (kept .narrow .last .1 .0) (countN bytes) (OnChain (nodesOf bytes))
+chained kept =
     let returned = kept .before .before .before in
     let w = around (returned .before) in
     let m = met w in
     let p = m .before .before in
     let n = p .before .before in
-    let pre = n .before .before .pre in (
-      pre,
-      chain-hold (counted pre) (p .pair-rows .ensures) (m .meet-rows .ensures) (w .around-rows .ensures)
-          (rw (n .node-count .ensures .0) at (returned .returns-rows .ensures)) (kept .narrow .ensures),
-    )
+    chain-hold (counted (start kept .pre)) (p .pair-rows .ensures) (m .meet-rows .ensures) (w .around-rows .ensures)
+    (rw (n .node-count .ensures .0) at (returned .returns-rows .ensures)) (kept .narrow .ensures)
+
+keep-clear-requires : tie.Need-keep-clear-requires
+keep-clear-requires c κs = let kept = c .before .before in (start kept .pre, holds-low (chained kept))
 
 returns : tie.Need-returns
 returns c =
     let kept = c .before .before .before in
     let m = met (around (kept .before .before .before .before)) in
-    record { pairs = m .before .before .pair-rows .ensures; meetings = m .meet-rows .ensures; suspects = c .keep-clear .ensures }
+    record {
+      pairs = m .before .before .pair-rows .ensures;
+      meetings = m .meet-rows .ensures;
+      suspects = suspects-hold (start kept .args .question) (start kept .pre .few) (chained kept) (c .keep-clear .ensures);
+    }
 
 pub suspects-spec : {M : Type 1} → statement M
 suspects-spec =

@@ -1,27 +1,18 @@
 -- What the rows of the failing-pair test keep, relation by relation.
 use mathlib.Core.List.{List}
 use Prim.Native.Nat.{ℕ}
-use lib.Dec.{T}
 use Rattle.listing.specs.Node.{Listing}
 use Rattle.listing.specs.Bytes.{countN, nodesOf}
-use Rattle.order.specs.Rows.{All}
-use Rattle.order.specs.Walks.{kindAt, Access, Walk, Pair}
+use Rattle.order.specs.Walks.{Access, Walk, Pair}
 use Rattle.order.specs.Chains.{Ends, Chain}
-use Rattle.order.specs.Need.{RmwInside, question, classAt, bars}
+use Rattle.order.specs.Need.{RmwInside}
 use Rattle.rows.specs.Inner.Rows.{Holds}
 use Rattle.meetings.specs.Inner.Meeting.{Meeting}
+use Rattle.barriers.specs.Inner.Clear.{Clear}
 
 -- some walk leads from a to b
 abbrev pub Reaches : Listing → ℕ → ℕ → Type 0
 Reaches L a b = (inside : List ℕ) × Walk L a inside b
-
--- some walk from a to b has nothing inside that bars ends of class e
-abbrev pub ClearOf : ℕ → ℕ → Listing → ℕ → ℕ → Type 0
-ClearOf q e L a b = (inside : List ℕ) × Walk L a inside b × All (λ c. T (bars (question q) e (kindAt L c)) → ⊥) inside
-
--- "some walk between them has no barrier inside"
-abbrev pub Clear : ℕ → Listing → ℕ → ℕ → Type 0
-Clear q L a b = ClearOf q (classAt L a b) L a b
 
 -- two accesses, "some walk between them has an RMW inside"
 abbrev pub Exchanged : Listing → ℕ → ℕ → Type 0

@@ -20,11 +20,23 @@ enum-told-3 c = search needs
 is-writer-requires : tie.Need-is-writer-requires
 is-writer-requires c κs = search needs
 
-enum-told-4 : tie.Need-enum-told-4
-enum-told-4 c = search needs
-
 enum-known-pick : tie.Need-enum-known-pick
 enum-known-pick c = search needs
+
+enum-known-pick-2 : tie.Need-enum-known-pick-2
+enum-known-pick-2 c = search needs
+
+looks-first-requires : tie.Need-looks-first-requires
+looks-first-requires c κs = search needs
+
+enum-known-pick-3 : tie.Need-enum-known-pick-3
+enum-known-pick-3 c = search needs
+
+looks-second-requires : tie.Need-looks-second-requires
+looks-second-requires c κs = search needs
+
+enum-known-pick-4 : tie.Need-enum-known-pick-4
+enum-known-pick-4 c = search needs
 
 bars-requires : tie.Need-bars-requires
 bars-requires c κs = search needs
@@ -39,10 +51,16 @@ returns-3 : tie.Need-returns-3
 returns-3 c = rw (c .before .enum-told3 .given .1) (c .is-writer .ensures)
 
 returns-4 : tie.Need-returns-4
-returns-4 c = rw (c .enum-told4 .given .1)
+returns-4 c = rw (c .before .pick .given .1)
 
 returns-5 : tie.Need-returns-5
-returns-5 c = rw (c .before .before .pick .given .1) (ap not (c .bars .ensures))
+returns-5 c = rw (c .before .before .pick2 .given .1) (c .looks-first .ensures)
+
+returns-6 : tie.Need-returns-6
+returns-6 c = rw (c .before .before .pick3 .given .1) (ap not (c .looks-second .ensures))
+
+returns-7 : tie.Need-returns-7
+returns-7 c = rw (c .before .before .pick4 .given .1) (ap not (c .bars .ensures))
 
 pub picks-spec : {M : Type 1} → statement M
 picks-spec =
@@ -53,11 +71,17 @@ picks-spec =
     is-access-requires
     enum-told-3
     is-writer-requires
-    enum-told-4
     enum-known-pick
+    enum-known-pick-2
+    looks-first-requires
+    enum-known-pick-3
+    looks-second-requires
+    enum-known-pick-4
     bars-requires
     returns
     returns-2
     returns-3
     returns-4
-    returns-5)
+    returns-5
+    returns-6
+    returns-7)

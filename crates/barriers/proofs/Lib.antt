@@ -1,0 +1,3 @@
+pub mod ClearWalks
+pub mod Cleared
+pub mod Kept
