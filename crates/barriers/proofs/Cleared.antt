@@ -2,10 +2,10 @@
 use mathlib.Core.Path.{_≡_, sym, subst}
 use mathlib.Core.Logic.{_↔_}
 use mathlib.Core.List.{List}
-use mathlib.Core.Bool.{Bool, false, _&&_}
+use mathlib.Core.Bool.{false}
 use Prim.Native.Nat.{ℕ, _<_}
 use lib.Dec.{T, eqb}
-use Rattle.listing.specs.Kinds.{READ, FENCE, LOAD-FENCE, STORE-FENCE}
+use Rattle.listing.specs.Kinds.{FENCE, LOAD-FENCE, STORE-FENCE}
 use Rattle.listing.specs.Node.{Listing}
 use Rattle.listing.proofs.Bools.{both, both→}
 use Rattle.order.specs.Rows.{All}

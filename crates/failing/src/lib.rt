@@ -3,12 +3,10 @@ ghost use Prim.Native.Nat.{_<_, _≤_};
 ghost use Rattle.listing.specs.Bytes.{countN, nodesOf};
 ghost use Rattle.listing.specs.Inner.Whole.{Whole};
 ghost use Rattle.order.specs.Need.{Asked};
-ghost use Rattle.order.specs.Inner.Table.{Ruled};
 ghost use Rattle.order.specs.Verdict.{Fails, Robust};
 ghost use Rattle.rows.specs.Inner.Least.{Least};
 ghost use Rattle.rows.specs.Inner.Rows.{Tells};
 ghost use Rattle.failing.specs.Inner.Failing.{Prepared, Laid, NextFailing};
-use order::ENTRIES;
 use rows::WORDS;
 
 // The rows of a listing under a question: its pairs, who meets whom, the suspects, and where an RMW is inside.
@@ -32,13 +30,12 @@ pub fn prepare(
 pub fn fails_at(
     question: u8,
     bytes: &[u8],
-    table: &[u8; ENTRIES],
     c: &[u64; WORDS],
     i: &[u64; WORDS],
     a: usize,
     b: usize,
 ) -> bool
-    requires { ⌜ Ruled (now table) × Prepared question (now bytes) (now c) (now i) × (a < countN (now bytes)) × (b < countN (now bytes)) ⌝ }
+    requires { ⌜ Prepared question (now bytes) (now c) (now i) × (a < countN (now bytes)) × (b < countN (now bytes)) ⌝ }
     ensures { λ r. ⌜ Tells r (Fails question (nodesOf (now (bytes .entry))) a b) ⌝ }
 {
     if !rows::has(c, a, b) {
@@ -51,7 +48,7 @@ pub fn fails_at(
     }
     let first = listing::kind_at(bytes, a);
     let second = listing::kind_at(bytes, b);
-    let entry = order::need(table, question, first, second);
+    let entry = order::need(question, first, second);
     if entry == 0 {
         return false;
     }
@@ -65,19 +62,18 @@ pub fn fails_at(
 pub fn second_failing(
     question: u8,
     bytes: &[u8],
-    table: &[u8; ENTRIES],
     c: &[u64; WORDS],
     i: &[u64; WORDS],
     a: usize,
     b: usize,
 ) -> usize
-    requires { ⌜ Ruled (now table) × Prepared question (now bytes) (now c) (now i) × (a < countN (now bytes)) × (b ≤ countN (now bytes)) ⌝ }
+    requires { ⌜ Prepared question (now bytes) (now c) (now i) × (a < countN (now bytes)) × (b ≤ countN (now bytes)) ⌝ }
     ensures { λ r. ⌜ Least (Fails question (nodesOf (now (bytes .entry))) a) b (countN (now (bytes .entry))) r ⌝ }
 {
     let n = listing::node_count(bytes);
     let mut y = rows::next(c, a, b, n);
     while y < n {
-        if fails_at(question, bytes, table, c, i, a, y) {
+        if fails_at(question, bytes, c, i, a, y) {
             return y;
         }
         y = rows::next(c, a, y + 1, n);
@@ -104,11 +100,10 @@ pub fn next_failing(
     ensures { λ r. ⌜ NextFailing question (nodesOf (now (bytes .entry))) (countN (now (bytes .entry))) a b (r .first) (r .second) ⌝ }
 {
     let n = listing::node_count(bytes);
-    let table = order::need_table();
     let mut first = a;
     let mut from = b;
     while first < n {
-        let second = second_failing(question, bytes, &table, c, i, first, from);
+        let second = second_failing(question, bytes, c, i, first, from);
         if second < n {
             return Found { first, second };
         }

@@ -43,7 +43,7 @@ with-more armv8OnArmv7 f k t = t
 with-more scOnArmv8 f k t = one (isFence k) (eqb k f) (inl (either (isFence k) (isFence k) (λ s. s) (λ s. s) t))
 with-more x86OnArmv8 f k t = one (isFence k) (eqb k f) (inl (either (isFence k) (isFence k) (λ s. s) (λ s. s) t))
 
--- what is not the fence bars with every fence, if it bars with this one
+-- what is not the fence bars with a full fence, if it bars with this one
 pub with-absent : (q : Question) (f k : ℕ) → (T (eqb k f) → ⊥) → T (barsWith q f k) → T (barsWith q FENCE k)
 with-absent scOnX86 f k n t = t
 with-absent scOnArmv7 f k n t = t

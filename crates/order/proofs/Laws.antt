@@ -1,18 +1,17 @@
 -- Laws of the definitions: what the rest of the theory uses of walks, accesses and barriers. Those of meeting stand in Meeting.antt.
-use mathlib.Core.Path.{_≡_, refl, subst}
+use mathlib.Core.Path.{_≡_, subst}
 use mathlib.Core.Logic.{inl, inr}
 use mathlib.Core.HLevel.{×-discrete}
 use mathlib.Core.List.{List, [], _∷_}
-use mathlib.Core.Bool.{Bool, true, false}
 use Prim.Native.Nat.{ℕ, _≤_, _<_}
 use native.Mathlib.Decide.{decLt, ℕ-discrete}
 use native.Mathlib.Omega.{arith}
-use lib.Dec.{T, eqb}
+use lib.Dec.{T}
 use lib.ListN.{length, List·getD-eq-default}
 use Rattle.listing.specs.Kinds.{PLAIN, FENCE}
 use Rattle.listing.specs.Node.{Node, blank, Listing, node}
 use Rattle.order.specs.Rows.{In, Some}
-use Rattle.order.specs.Walks.{isAccess, isFence, Access, Walk}
+use Rattle.order.specs.Walks.{isAccess, Access, Walk}
 use Rattle.order.specs.Chains.{Ends, Enough}
 use Rattle.order.specs.Need.{Question, scOnX86, scOnArmv7, x86OnArmv7, armv8OnArmv7, scOnArmv8, x86OnArmv8, bars}
 

@@ -15,9 +15,8 @@ use Rattle.listing.specs.Bytes.{versionOf, nodesOf}
 use Rattle.listing.specs.Read.{Admitted}
 use Rattle.listing.proofs.Valid.{admitted-valid}
 use Rattle.listing.proofs.Bools.{neither-or, lacks-and}
-use Rattle.order.specs.Rows.{All}
 use Rattle.order.specs.Walks.{kindAt, isAccess, isFence}
-use Rattle.order.specs.Need.{Question, scOnArmv7, x86OnArmv7, scOnArmv8, x86OnArmv8, Entry, need, leave, allButWriteRead, keptByArmv8, entry}
+use Rattle.order.specs.Need.{Entry, need, leave, allButWriteRead, keptByArmv8, entry}
 use Rattle.order.specs.Need.{question, RmwInside, Says, Needs, barsByEnds, bars, Unbarred}
 use Rattle.order.specs.Verdict.{Fails, Verdict, robust, opened, Judged}
 use Rattle.order.proofs.Lists.{all-in, in-all}

@@ -6,9 +6,7 @@ ghost use Rattle.order.specs.Walks.{countsRead, countsWrite, isWriter, i
 ghost use Rattle.order.specs.Chains as chains;
 ghost use Rattle.order.specs.Need as rules;
 ghost use Rattle.order.specs.Inner.Ends.{byEnds, looksFirst, looksSecond, barsWith};
-pub use table::ENTRIES;
 pub use table::need;
-pub use table::need_table;
 
 // How many questions there are.
 pub const QUESTIONS: usize = 6;

@@ -4,30 +4,20 @@ ghost use Prim.Native.Nat.{_<_};
 ghost use Rattle.listing.specs.Kinds.{KINDS};
 ghost use Rattle.order.specs.Need.{Asked, entry};
 ghost use Rattle.order.specs.Need as rules;
-ghost use Rattle.order.specs.Inner.Table.{numberOf, Ruled};
+ghost use Rattle.order.specs.Inner.Table.{numberOf};
 use crate::QUESTIONS;
 
-// How many entries the table has.
-pub const ENTRIES: usize = QUESTIONS * listing::KINDS * listing::KINDS;
-
-// The table, to be lent: where it is read it is built anew.
-pub fn need_table() -> [u8; ENTRIES]
-    ensures { λ r. ⌜ Ruled r ⌝ }
-{
-    NEED
-}
-
 // What the table says of a pair, by question and the kinds of its ends: 0 leave, 1 need, 2 leave unless an RMW is inside.
-pub fn need(table: &[u8; ENTRIES], question: u8, first: u8, second: u8) -> u8
-    requires { ⌜ Ruled (now table) × Asked question × (first < KINDS) × (second < KINDS) ⌝ }
+pub fn need(question: u8, first: u8, second: u8) -> u8
+    requires { ⌜ Asked question × (first < KINDS) × (second < KINDS) ⌝ }
     ensures { λ r. ⌜ r ≡ numberOf (entry (rules.question question) first second) ⌝ }
 {
     let row = (question - 1) as usize * listing::KINDS + first as usize;
-    table[row * listing::KINDS + second as usize]
+    NEED[row * listing::KINDS + second as usize]
 }
 
 // Each entry with its question, first kind and second kind.
-const NEED: [u8; ENTRIES] = [
+const NEED: [u8; QUESTIONS * listing::KINDS * listing::KINDS] = [
     0, // 1: 0 then 0
     0, // 1: 0 then 1
     0, // 1: 0 then 2

@@ -6,30 +6,21 @@ ghost use Rattle.listing.specs.Inner.Whole.{Whole};
 ghost use Rattle.listing.specs.Rules.{passed, firstOf};
 ghost use Rattle.fencing.specs.Marks.{marksOf};
 ghost use Rattle.order.specs.Need.{Asked};
-ghost use Rattle.order.specs.Inner.Table.{Ruled};
 ghost use Rattle.failing.specs.Inner.Failing.{Prepared};
 ghost use Rattle.patch.specs.Patching.{proposeSays, offerRules, Offered, Proposing, ProposePromise};
 ghost use Rattle.proposal.specs.Inner.Marking.{MarkOf, Marked, Drawn};
 use listing::Listing;
 use listing::ReadAnswer;
-use order::ENTRIES;
 use patch::ProposeAnswer;
 use rows::WORDS;
 
 // 1 where a is the first node of a failing pair, and 0 where it is none.
-fn mark_of(
-    question: u8,
-    bytes: &[u8],
-    table: &[u8; ENTRIES],
-    c: &[u64; WORDS],
-    i: &[u64; WORDS],
-    a: usize,
-) -> u8
-    requires { ⌜ Ruled (now table) × Prepared question (now bytes) (now c) (now i) × (a < countN (now bytes)) ⌝ }
+fn mark_of(question: u8, bytes: &[u8], c: &[u64; WORDS], i: &[u64; WORDS], a: usize) -> u8
+    requires { ⌜ Prepared question (now bytes) (now c) (now i) × (a < countN (now bytes)) ⌝ }
     ensures { λ r. ⌜ MarkOf question (nodesOf (now (bytes .entry))) a r ⌝ }
 {
     let n = listing::node_count(bytes);
-    if failing::second_failing(question, bytes, table, c, i, a, 0) < n {
+    if failing::second_failing(question, bytes, c, i, a, 0) < n {
         return 1;
     }
     0
@@ -41,9 +32,8 @@ fn draw(question: u8, bytes: &[u8], c: &[u64; WORDS], i: &[u64; WORDS], marks: &
     ensures { λ _. ⌜ Marked question (nodesOf (now (bytes .entry))) (now (marks .exit)) (countN (now (bytes .entry))) ⌝ }
 {
     let n = listing::node_count(bytes);
-    let table = order::need_table();
     for a in 0..n {
-        let mark = mark_of(question, bytes, &table, c, i, a);
+        let mark = mark_of(question, bytes, c, i, a);
         marks[a] = mark;
     }
 }

@@ -2,7 +2,6 @@
 use borrow.Author.Needs.{needs}
 use mathlib.Core.Path.{_∙_, sym}
 use mathlib.Core.Bool.{true}
-use Rattle.listing.specs.Bytes.{countN, nodesOf}
 use Rattle.listing.proofs.Bools.{not-is}
 use Rattle.meetings.proofs.Counted.{counted}
 use Rattle.barriers.specs.Inner.Clear.{Cleared}

@@ -33,7 +33,7 @@ suspect : (c : tie.Else1) → Of c Suspect
 suspect c =
     let has = c .before in
     let s = start has in
-    suspected (s .pre .1) (s .args .a) (s .args .b) (s .pre .3) (has .has .result) (c .if1 .left) (has .has .ensures)
+    suspected (s .pre .0) (s .args .a) (s .args .b) (s .pre .2) (has .has .result) (c .if1 .left) (has .has .ensures)
 
 -- what was read of the two nodes' locations and kinds
 locations : (c : tie.After-surely) → Of (named c) (λ q L a b. c .surely .result ≡ surely (locAt L a) (locAt L b))
@@ -53,7 +53,7 @@ returns c =
     let has = c .before in
     let pre = start has .pre in
     let none = tells-no _ (has .has .result) (c .if1 .taken) (has .has .ensures) in
-    λ f. none (pre .1 .suspects .whole _ _ (pre .2) (pre .3) (fails-suspect _ _ _ _ f))
+    λ f. none (pre .0 .suspects .whole _ _ (pre .1) (pre .2) (fails-suspect _ _ _ _ f))
 
 location-at-requires : tie.Need-location-at-requires
 location-at-requires c κs = search needs
@@ -79,7 +79,7 @@ need-requires c κs =
     let e = named (first .before .before) in
     let s = start (e .before) in
     let p = suspect-pair (s .args .question) (nodesOf (s .args .bytes .now)) (s .args .a) (s .args .b) (suspect e) in
-    (s .pre .0, s .pre .1 .asked, rw (first .kind-at .ensures) (kind-below _ (p .from)), rw (c .kind-at2 .ensures) (kind-below _ (p .to)))
+    (s .pre .0 .asked, rw (first .kind-at .ensures) (kind-below _ (p .from)), rw (c .kind-at2 .ensures) (kind-below _ (p .to)))
 
 returns-3 : tie.Need-returns-3
 returns-3 c =
@@ -101,7 +101,7 @@ returns-5 c =
     let n = kept .before in
     let e = named (parted n .before) in
     let pre = start (e .before) .pre in
-    unless-inside _ _ _ _ (suspect e) (apart (parted n)) _ _ (pre .1 .whole .few) (pre .2) (pre .3) (pre .1 .exchanged) (c .has2 .result)
+    unless-inside _ _ _ _ (suspect e) (apart (parted n)) _ _ (pre .0 .whole .few) (pre .1) (pre .2) (pre .0 .exchanged) (c .has2 .result)
     (λ z. kept .if3 .left (kinds n ∙ z)) (λ z. unneeded .if4 .left (kinds n ∙ z)) (c .has2 .ensures)
 
 pub fails-at-spec : {M : Type 1} → statement M

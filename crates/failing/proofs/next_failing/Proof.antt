@@ -1,5 +1,4 @@
 -- `failing::next_failing` meets its contract. The loop's invariant: no pair from (a, b) on and before (first, from) fails.
-use borrow.Author.Needs.{needs}
 use native.Mathlib.Omega.{arith}
 use mathlib.Core.Path.{_≡_, sym}
 use Prim.Native.Nat.{_≤_, _-_}
@@ -12,38 +11,32 @@ use Rattle.failing.proofs.next_failing.Statement.{statement}
 use Rattle.failing.proofs.next_failing.Tie as tie
 
 abbrev Inv-loop : tie.InvT-loop
-Inv-loop question bytes c i a b n table first₀ from₀ first from =
+Inv-loop question bytes c i a b n first₀ from₀ first from =
     (n ≡ countN bytes) × (first ≤ n) × (from ≤ n) × (Before (first, from) (a, b) → ⊥) × NoneBefore question (nodesOf bytes) a b first from
 
 abbrev μ-loop : tie.MeasureT-loop
-μ-loop question bytes c i a b n table first₀ from₀ first from = n - first
+μ-loop question bytes c i a b n first₀ from₀ first from = n - first
 
 -- where the function began
 abbrev start : tie.At-loop Inv-loop μ-loop → tie.Start Inv-loop μ-loop
-start c = c .before .before .before .before
+start c = c .before .before .before
 
 node-count-requires : tie.Need-node-count-requires Inv-loop μ-loop
 node-count-requires c κs = c .before .pre .0 .whole
 
-need-table-requires : tie.Need-need-table-requires Inv-loop μ-loop
-need-table-requires c κs = search needs
-
 loop-holds : tie.Need-loop-holds Inv-loop μ-loop
 loop-holds c =
-    let n = c .before in
-    let a = n .before .before .args in
+    let a = c .before .before .args in
     let none = none-before (a .question) (nodesOf (a .bytes .now)) (a .a) (a .b) in
-    (n .node-count .ensures .0, omega arith, omega arith, before-irrefl (a .a, a .b), none)
+    (c .node-count .ensures .0, omega arith, omega arith, before-irrefl (a .a, a .b), none)
 
 second-failing-requires : tie.Need-second-failing-requires Inv-loop μ-loop
-second-failing-requires c κs =
-    let at = c .before .before in
-    (at .before .need-table .ensures, start at .pre .0, omega arith, omega arith)
+second-failing-requires c κs = (start (c .before) .pre .0, omega arith, omega arith)
 
 returns : tie.Need-returns Inv-loop μ-loop
 returns c =
     let s = c .before in
-    let at = s .before .before .before in
+    let at = s .before .before in
     let a = start at .args in
     let inv = at .loop .inv in
     found (a .question) (nodesOf (a .bytes .now)) _ _ _ _ _ _ (inv .4) (s .second-failing .ensures) (inv .3) (omega arith) (omega arith)
@@ -57,7 +50,7 @@ loop-less c = omega arith
 loop-again : tie.Need-loop-again Inv-loop μ-loop
 loop-again c =
     let s = c .before in
-    let at = s .before .before .before in
+    let at = s .before .before in
     let a = start at .args in
     let inv = at .loop .inv in
     let size = sym (nodes-length (a .bytes .now)) in (
@@ -82,7 +75,6 @@ next-failing-spec =
     Inv-loop
     μ-loop
     node-count-requires
-    need-table-requires
     loop-holds
     second-failing-requires
     returns

@@ -10,10 +10,10 @@ use Rattle.failing.proofs.second_failing.Statement.{statement}
 use Rattle.failing.proofs.second_failing.Tie as tie
 
 abbrev Inv-loop : tie.InvT-loop
-Inv-loop question bytes table c i a b n y₀ y = (n ≡ countN bytes) × (n ≤ 128) × Searched (Fails question (nodesOf bytes) a) b n y
+Inv-loop question bytes c i a b n y₀ y = (n ≡ countN bytes) × (n ≤ 128) × Searched (Fails question (nodesOf bytes) a) b n y
 
 abbrev μ-loop : tie.MeasureT-loop
-μ-loop question bytes table c i a b n y₀ y = n - y
+μ-loop question bytes c i a b n y₀ y = n - y
 
 -- where the function began
 abbrev start : tie.After-node-count Inv-loop μ-loop → tie.Start Inv-loop μ-loop
@@ -23,7 +23,7 @@ abbrev count : tie.At-loop Inv-loop μ-loop → tie.After-node-count Inv-loop μ
 count c = c .before .before .before
 
 node-count-requires : tie.Need-node-count-requires Inv-loop μ-loop
-node-count-requires c κs = c .before .pre .1 .whole
+node-count-requires c κs = c .before .pre .0 .whole
 
 next-requires : tie.Need-next-requires Inv-loop μ-loop
 next-requires c κs = omega arith
@@ -33,10 +33,10 @@ loop-holds c =
     let n = c .before .before in
     let pre = start n .pre in
     let e = n .node-count .ensures .0 in
-    (e, n .node-count .ensures .1, searched-first {b = start n .args .b} (in-row (pre .1) _ _ e (pre .2)) {r = c .next .result} (c .next .ensures))
+    (e, n .node-count .ensures .1, searched-first {b = start n .args .b} (in-row (pre .0) _ _ e (pre .1)) {r = c .next .result} (c .next .ensures))
 
 fails-at-requires : tie.Need-fails-at-requires Inv-loop μ-loop
-fails-at-requires c κs = let pre = start (count (c .before)) .pre in (pre .0, pre .1, pre .2, omega arith)
+fails-at-requires c κs = let pre = start (count (c .before)) .pre in (pre .0, pre .1, omega arith)
 
 returns : tie.Need-returns Inv-loop μ-loop
 returns c =
@@ -59,7 +59,7 @@ loop-again c =
     let inv = at .loop .inv in
     let pre = start (count at) .pre in
     let past = rw (e .if1 .left) at (e .before .fails-at .ensures) in
-    (inv .0, inv .1, searched-more (in-row (pre .1) _ _ (inv .0) (pre .2)) (inv .2) past (c .next2 .ensures))
+    (inv .0, inv .1, searched-more (in-row (pre .0) _ _ (inv .0) (pre .1)) (inv .2) past (c .next2 .ensures))
 
 returns-2 : tie.Need-returns-2 Inv-loop μ-loop
 returns-2 c = let inv = c .before .loop .inv in rw (← inv .0) (search-fails (inv .2) (c .loop-test .left))

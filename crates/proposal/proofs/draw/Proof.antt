@@ -3,7 +3,6 @@ use mathlib.Core.Path.{_≡_, refl, _∙_}
 use Prim.Native.Nat.{_-_, _≤_, _<_}
 use native.Mathlib.Omega.{arith}
 use borrow.Author.Count.{below-none}
-use borrow.Author.Needs.{needs}
 use denote.Ref.{now}
 use lib.ListN.{length, length-set}
 use Rattle.listing.specs.Bytes.{countN, nodesOf}
@@ -13,31 +12,26 @@ use Rattle.proposal.proofs.draw.Statement.{statement}
 use Rattle.proposal.proofs.draw.Tie as tie
 
 abbrev Inv-loop : tie.InvT-loop
-Inv-loop question bytes c i marks₀ n table a₀ marks a =
+Inv-loop question bytes c i marks₀ n a₀ marks a =
     (n ≡ countN bytes) × (a ≤ n) × (length marks ≡ length marks₀) × Marked question (nodesOf bytes) marks a
 
 abbrev μ-loop : tie.MeasureT-loop
-μ-loop question bytes c i marks₀ n table a₀ marks a = n - a
+μ-loop question bytes c i marks₀ n a₀ marks a = n - a
 
 abbrev start : tie.At-loop Inv-loop μ-loop → tie.Start Inv-loop μ-loop
-start c = c .before .before .before .before .before
+start c = c .before .before .before .before
 
 node-count-requires : tie.Need-node-count-requires Inv-loop μ-loop
 node-count-requires c κs = c .before .before .pre .0 .whole
 
-need-table-requires : tie.Need-need-table-requires Inv-loop μ-loop
-need-table-requires c κs = search needs
-
 loop-holds : tie.Need-loop-holds Inv-loop μ-loop
-loop-holds c = (c .before .node-count .ensures .0, omega arith, refl, below-none _)
+loop-holds c = (c .node-count .ensures .0, omega arith, refl, below-none _)
 
 mark-of-requires : tie.Need-mark-of-requires Inv-loop μ-loop
-mark-of-requires c κs =
-    let at = c .before .before in
-    (at .before .need-table .ensures, start at .pre .0, omega arith)
+mark-of-requires c κs = (start (c .before) .pre .0, omega arith)
 
 slice-write-marks : tie.Need-slice-write-marks Inv-loop μ-loop
-slice-write-marks c = omega (arith, c .before .before .before .loop .inv .2)
+slice-write-marks c = omega (arith, c .before .before .loop .inv .2)
 
 add-a : tie.Need-add-a Inv-loop μ-loop
 add-a c = omega arith
@@ -47,7 +41,7 @@ loop-less c = omega arith
 
 loop-again : tie.Need-loop-again Inv-loop μ-loop
 loop-again c =
-    let at = c .before .before .before in
+    let at = c .before .before in
     let inv = at .loop .inv in
     let a = start at .args in
     let room : at .loop .a < length (at .loop .marks) = omega (arith, inv .2) in (
@@ -72,7 +66,6 @@ draw-spec =
     Inv-loop
     μ-loop
     node-count-requires
-    need-table-requires
     loop-holds
     mark-of-requires
     slice-write-marks

@@ -1,13 +1,18 @@
--- `order::table::need` meets its contract.
+-- `order::table::need` meets its contract: the table's rule is one test over all of its entries, which is computed.
 use mathlib.Core.Path.{_≡_, _∙_}
+use mathlib.Core.List.{List}
 use Prim.Native.Nat.{ℕ, suc, _+_, _*_, _-_, _/_, _%_, _<_}
 use native.Mathlib.Omega.{arith}
+use borrow.Table.Row as Row
 use borrow.Author.Needs.{needs}
 use Rattle.listing.specs.Kinds.{KINDS}
-use Rattle.order.specs.Need.{Asked, question, entry}
-use Rattle.order.specs.Inner.Table.{numberOf, ruled}
+use Rattle.order.specs.Need.{QUESTIONS, Asked, question, entry}
+use Rattle.order.specs.Inner.Table.{numberOf}
+use Rattle.order.proofs.Tables.{right-at}
 use Rattle.order.proofs.table.need.Statement.{statement}
 use Rattle.order.proofs.table.need.Tie as tie
+use Rattle.order.proofs.table.need.Lts as lts
+use Rattle.order.proofs.table.need.Reads as reads
 
 sub-row : tie.Need-sub-row
 sub-row c = search needs
@@ -27,8 +32,16 @@ mul-result c = search needs
 add-result : tie.Need-add-result
 add-result c = search needs
 
-element-copy-out-result : tie.Need-element-copy-out-result
-element-copy-out-result c = search needs
+array-read-result : tie.Need-array-read-result
+array-read-result c = search needs
+
+-- how many entries there are
+abbrev ENTRIES : ℕ
+ENTRIES = QUESTIONS * KINDS * KINDS
+
+-- the rule of the entry at place i: its question, first kind and second kind are i's digits
+ruled : ℕ → ℕ
+ruled i = numberOf (entry (question (suc (i / 100))) (i / 10 % 10) (i % 10))
 
 -- the place of a question's entry for two kinds
 place : (q j k : ℕ) → Asked q → j < KINDS → k < KINDS → ruled (((q - 1) * KINDS + j) * KINDS + k) ≡ numberOf (entry (question q) j k)
@@ -40,14 +53,18 @@ place q j k h hj hk =
     let g : i % 10 ≡ k = omega arith in
     λ t. numberOf (entry (question (e t)) (f t) (g t))
 
+-- the table, taken from the code where it is read: local 9
+abbrev table : tie.Start → List ℕ
+table c = Row.get 9 (lts.T20 .locals) (lts.m19 reads.Pre reads.Post (c .args) (c .blocks))
+
 returns : tie.Need-returns
+unfolding ruled
 returns c =
-    let s = c .before in
-    let a = s .args in
-    s .pre .0 (((a .question - 1) * KINDS + a .first) * KINDS + a .second) (omega (arith, s .pre .1 .most))
-    ∙ place (a .question) (a .first) (a .second) (s .pre .1) (s .pre .2) (s .pre .3)
+    let a = c .args in
+    right-at ruled ENTRIES (table c) tt (((a .question - 1) * KINDS + a .first) * KINDS + a .second) (omega arith)
+    ∙ place (a .question) (a .first) (a .second) (c .pre .0) (c .pre .1) (c .pre .2)
 
 pub need-spec : {M : Type 1} → statement M
 need-spec =
     tie.close
-    (tie.spec sub-row cast-row mul-row add-row mul-result add-result element-copy-out-result returns)
+    (tie.spec sub-row cast-row mul-row add-row mul-result add-result array-read-result returns)
