@@ -21,9 +21,9 @@
 #include <stddef.h>
 #include <stdint.h>
 
-#define NYEKUSHIRO_VERSION "1.3.0"
+#define NYEKUSHIRO_VERSION "1.4.0"
 #define NYEKUSHIRO_VERSION_MAJOR 1
-#define NYEKUSHIRO_VERSION_MINOR 3
+#define NYEKUSHIRO_VERSION_MINOR 4
 #define NYEKUSHIRO_VERSION_PATCH 0
 
 #ifdef __cplusplus
@@ -116,8 +116,7 @@ nyekushiro_answer nyekushiro_read(const uint8_t *listing, size_t listing_len);
 
 /* Judges a listing. ROBUST, or OPEN: first and second = the nodes of the first failing pair, count = the number of pairs in its
  * chain, which is put as two bytes a pair at the start of `chain`. ROBUST writes nothing.
- * `chain` must have 258 bytes, also where the answer is ROBUST. ROBUST leaves out a circle that one pair closes with copies of
- * itself alone: where a location is unknown or a block, list that routine twice (docs/LISTING.md). */
+ * `chain` must have 258 bytes, also where the answer is ROBUST. */
 nyekushiro_answer nyekushiro_judge(uint64_t question, const uint8_t *listing, size_t listing_len,
                                    uint8_t *chain, size_t chain_len);
 

@@ -62,9 +62,18 @@ try 2 "$text: OPEN 0 1 2 0-1 2-3
 $fader: OPEN 0 1 2 0-1 2-3
 $typed: REFUSED 17 14" "$typed: Refused by rule 17 at byte 14: bad text." judge 3 "$text" "$fader" "$typed"
 
-# a location that is unknown or a block comes with its exception here too
+# one pair alone closes the circle, where a location is unknown or a block
 printf 'routine { w 0 w 40000 }' >"$typed"
-try 0 ROBUST "$exception" judge 2 "$typed"
+try 1 'OPEN 0 1 1 0-1' '' judge 2 "$typed"
+said "Nothing assures that others see node 0 before node 1. The circle in which that shows:
+node 0, then node 1; which may touch the same cell as node 0 of another thread on the same routine, then node 1 there; which may touch the same cell as node 0 here.
+In the text:
+    node 0: line 1, column 11: w 0
+    node 1: line 1, column 15: w 40000
+Next: $root/nyekushiro propose 2 $typed" judge 2 'w 0 w 40000'
+printf 'routine { w 40000 w 40001 }' >"$typed"
+try 0 ROBUST '' judge 2 "$typed"
+said '' judge 2 'w 40000 w 40001'
 
 # where each node is typed: a loop, an either and where its blocks meet
 printf 'routine { loop {\r\n  either { r 00001 }\r\n{ u 65535 } f }\r\n}' >"$typed"

@@ -86,32 +86,43 @@ meaning() { # THE LINE'S WORDS..
     kind=$1
     shift
     case $kind in
-    ROBUST) exception ;;
     OPEN) circle "$@" && return 1 ;;
-    PROPOSED) proposal "$@" && exception ;;
-    ACCEPTED) acceptance "$nodes" && exception ;;
+    PROPOSED) proposal "$@" ;;
+    ACCEPTED) acceptance "$nodes" ;;
     REFUSED) refused "$@" && return 2 ;;
     esac
 }
 
 circle() { # FIRST SECOND COUNT PAIRS..
     case $nodes in '') nothing=Nothing ;; *) nothing='With these fences nothing' ;; esac
-    say "$named$nothing assures that others see node $1 before node $2. The circle in which that shows:"
-    from=$1
+    say "$named$nothing assures that others see node $1 before $(second "$1-$2"). The circle in which that shows:"
+    from=$1 here=''
     shift 3
     pairs=$*
-    walk="node ${1%-*}, then node ${1#*-}" hops=${1#*-}
+    walk="node $from, then $(second "$1")" hops=${1#*-}
     shift
+    if [ $# -eq 0 ]; then # one pair alone: the circle is that of two threads which both take this step
+        walk="$walk; which may touch the same cell as node $from of another thread on the same routine, then $(second "$pairs") there"
+        here=' here'
+    fi
     for pair in "$@"; do
-        walk="$walk; which may touch the same cell as node ${pair%-*}, then node ${pair#*-}"
+        walk="$walk; which may touch the same cell as node ${pair%-*}, then $(second "$pair")"
         hops="$hops-${pair%-*} ${pair#*-}"
     done
-    say "$walk; which may touch the same cell as node $from."
+    say "$walk; which may touch the same cell as node $from$here."
     writers=''
     for hop in $hops-$from; do reads "${hop%-*}" "${hop#*-}"; done
     # shellcheck disable=SC2046,SC2086  # a word a node
     in_text 'In the text:' $(echo "$pairs" | tr - ' ') $writers
     say "Next: $(pasted propose "$q" "$file")"
+}
+
+# The second node of a pair; a node follows itself in a loop.
+second() { # PAIR
+    case ${1%-*} in
+    "${1#*-}") echo "node ${1#*-} of a later round" ;;
+    *) echo "node ${1#*-}" ;;
+    esac
 }
 
 # Two reads meet because somebody writes their cell: of a hop between two, says who may. Adds that node to writers.
@@ -175,24 +186,4 @@ acceptance() { # NODES
     esac
     # shellcheck disable=SC2086  # a word a node
     in_text 'In the text:' $1
-}
-
-# What the rules leave out, said where it can matter.
-exception() {
-    # shellcheck disable=SC2086  # a word a byte
-    vague $listing || return 0
-    say "${named}Note: it has unknown locations or blocks, and the rules leave out a circle that one pair closes with copies of itself"
-    say 'alone. So list each routine that has such a location twice, as docs/LISTING.md says.'
-}
-
-# Whether some access has an unknown location or a block.
-vague() { # OCTAL..: a listing's bytes
-    [ $# -lt 7 ] || shift 7
-    while [ $# -ge 6 ]; do
-        case $2-$3$4 in
-        00[12356]-000000 | 00[12356]-???[23]?? | 011-000000 | 011-???[23]??) return 0 ;;
-        esac
-        shift 6
-    done
-    return 1
 }

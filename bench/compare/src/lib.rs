@@ -8,6 +8,6 @@ mod tally;
 
 pub use both::{ask_both, setting};
 pub use marked::{Marked, Row};
-pub use mistakes::count_changes;
+pub use mistakes::{count_changes, Counted};
 pub use service::{Service, Side};
 pub use tally::Tally;

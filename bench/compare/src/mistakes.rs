@@ -4,11 +4,20 @@ use inputs::{Call, Random, QUESTIONS};
 use straightforward::{failing_by, AsTheyAre, Pair, Rules};
 
 use crate::marked::Row;
+use crate::tally::{chain, CHAINS};
 use crate::{ask_both, Marked, Service};
 
 /// What a mistake changes: a ROBUST listing would be OPEN, an OPEN one ROBUST; an OPEN one would show another pair, or the same and
 /// another chain, or have another map proposed; a patch would be accepted that is not, or not accepted that is.
 const CHANGES: [&str; 6] = ["ROBUST", "OPEN", "pair", "chain", "map", "patch"];
+
+/// What random listings came to.
+pub struct Counted {
+    /// the shown chains by their pairs, each of which must be met
+    pub chains: Marked,
+    /// what each mistake would change
+    pub changes: Marked,
+}
 
 /// Makes random listings, each with a map of a place or more, and has them judged, judged with the map and proposed for by both sides
 /// under every question: they must be alike. Counts what each mistake would change, its name with marks by CHANGES.
@@ -16,9 +25,10 @@ pub fn count_changes(
     (listings, seed): (u64, u64),
     made: impl Fn(&mut Random) -> Vec<u8>,
     mistakes: &[(Row, impl Rules)],
-) -> Marked {
+) -> Counted {
     let mut random = Random::seeded(seed);
-    let mut counts = Marked::new(mistakes.iter().map(|(row, _)| *row).collect(), &CHANGES);
+    let mut chains = Marked::new(vec![("a chain, judged", "+++"), ("a chain, judged with a map", "+++")], &CHAINS);
+    let mut changes = Marked::new(mistakes.iter().map(|(row, _)| *row).collect(), &CHANGES);
     for number in 0..listings {
         let listing = made(&mut random);
         let mut map: Vec<u8> = (0..inputs::nodes(&listing)).map(|_| random.once_in(4) as u8).collect();
@@ -32,13 +42,18 @@ pub fn count_changes(
                 }
             }
             let right = Failing::by(&AsTheyAre, &call);
+            for (row, failing) in [&right.judged, &right.patched].into_iter().enumerate() {
+                if let Some(shown) = failing.first() {
+                    chains.count(row, chain(shown.len()));
+                }
+            }
             for (row, (_, rules)) in mistakes.iter().enumerate() {
                 let changed = right.changed(&Failing::by(rules, &call));
-                (0..CHANGES.len()).filter(|&column| changed[column]).for_each(|column| counts.count(row, column));
+                (0..CHANGES.len()).filter(|&column| changed[column]).for_each(|column| changes.count(row, column));
             }
         }
     }
-    counts
+    Counted { chains, changes }
 }
 
 /// What fails, as `straightforward::failing_by` has it.

@@ -24,11 +24,21 @@ struct Counts {
     open: [Answered; SERVICES],
     /// a proposal with a place, a written listing with a fence
     with_places: [Answered; SERVICES],
+    /// by how many pairs the shown chain has, as CHAINS
+    chains: [[usize; CHAINS.len()]; SERVICES],
     refused: [[usize; REFUSALS]; SERVICES],
 }
 
 /// By question; a service that takes none has the first number.
 type Answered = [usize; QUESTIONS + 1];
+
+/// The shown chains by their pairs.
+pub const CHAINS: [&str; 3] = ["one pair", "two pairs", "more pairs"];
+
+/// Where CHAINS has a chain of so many pairs, which are not 0.
+pub fn chain(pairs: usize) -> usize {
+    pairs.min(CHAINS.len()) - 1
+}
 
 /// What to do about an answer that no service has.
 const BELONG: &str = "build the archive and the bench from the same repository";
@@ -60,13 +70,17 @@ impl Tally {
             (raw::Answer::DONE, Service::Propose) if answer.count > 0 => counts.with_places[at][question] += 1,
             (raw::Answer::DONE, Service::Write | Service::JudgePatch) if places > 0 => counts.with_places[at][question] += 1,
             (raw::Answer::DONE, _) => counts.done[at][question] += 1,
-            (raw::Answer::OPEN, Service::Judge | Service::JudgePatch) => {
+            (raw::Answer::OPEN, Service::Judge | Service::JudgePatch) if answer.count > 0 => {
                 counts.open[at][question] += 1;
+                counts.chains[at][chain(answer.count as usize)] += 1;
                 self.longest_chain = self.longest_chain.max(answer.count);
             }
             (raw::Answer::REFUSED, _) if service.may_refuse_by(answer.first) => counts.refused[at][row(answer.first)] += 1,
             (raw::Answer::REFUSED, _) => {
                 panic!("{service:?} refused by {}, which is none of its refusals; {BELONG}", answer.first)
+            }
+            (raw::Answer::OPEN, Service::Judge | Service::JudgePatch) => {
+                panic!("{service:?} showed a chain of no pair; {BELONG}")
             }
             (kind, _) => panic!("{service:?} answered with kind {kind}, which is none of its kinds; {BELONG}"),
         }
@@ -109,6 +123,11 @@ impl Counts {
             add("done or ROBUST", &self.done, |_| true);
             add("done or ROBUST with places", &self.with_places, Service::has_places);
             add("OPEN", &self.open, Service::judges);
+        }
+        for (pairs, name) in CHAINS.iter().enumerate() {
+            let shows = |service: Service| gives_answers(version, service) && service.judges();
+            let counted = |service: Service| shows(service).then(|| self.chains[service as usize][pairs]);
+            rows.push((format!("a chain of {name}"), Service::ALL.map(counted)));
         }
         for number in numbers() {
             let counted =
@@ -160,9 +179,17 @@ mod tests {
 
     /// The tally of one answer to a call with a listing of version 2.
     fn count(service: Service, kind: u64, first: u64) -> Tally {
+        counted_answer(service, raw::Answer { kind, first, second: 0, count: 0 })
+    }
+
+    /// The tally of one shown chain.
+    fn show(service: Service, pairs: u64) -> Tally {
+        counted_answer(service, raw::Answer { kind: raw::Answer::OPEN, first: 0, second: 0, count: pairs })
+    }
+
+    fn counted_answer(service: Service, answer: raw::Answer) -> Tally {
         let mut tally = Tally::default();
-        let call = Call::of_listing(5, b"ORD\x02\x00\x01\x00".to_vec(), vec![]);
-        tally.count(service, raw::Answer { kind, first, second: 0, count: 0 }, &call);
+        tally.count(service, answer, &Call::of_listing(5, b"ORD\x02\x00\x01\x00".to_vec(), vec![]));
         tally
     }
 
@@ -196,7 +223,6 @@ mod tests {
     #[test]
     fn each_answer_by_its_version_and_question() {
         let row = |service, name: &str| vec![(1, service, name.to_string())];
-        assert_eq!(counted(&count(Service::Judge, raw::Answer::OPEN, 0)), row(Service::Judge, "5 sc-armv8, OPEN"));
         assert_eq!(counted(&count(Service::Judge, raw::Answer::DONE, 0)), row(Service::Judge, "5 sc-armv8, done or ROBUST"));
         assert_eq!(counted(&count(Service::Read, raw::Answer::DONE, 0)), row(Service::Read, "done or ROBUST"));
         for (bytes, expected) in
@@ -207,10 +233,22 @@ mod tests {
     }
 
     #[test]
+    fn each_chain_by_its_pairs() {
+        for service in [Service::Judge, Service::JudgePatch] {
+            for (pairs, name) in [(1, "one pair"), (2, "two pairs"), (3, "more pairs"), (129, "more pairs")] {
+                let rows = ["5 sc-armv8, OPEN".to_string(), format!("a chain of {name}")].map(|name| (1, service, name));
+                assert_eq!(counted(&show(service, pairs)), rows, "{pairs} pairs");
+            }
+        }
+    }
+
+    #[test]
     fn names_what_was_not_met() {
-        let missing = count(Service::Judge, raw::Answer::OPEN, 0).never_met();
+        let missing = show(Service::Judge, 1).never_met();
         let is_missing = |name: &str| missing.iter().any(|missing| missing == name);
         assert!(is_missing("version 1, Judge: 5 sc-armv8, OPEN") && !is_missing("version 2, Judge: 5 sc-armv8, OPEN"));
+        assert!(is_missing("version 2, Judge: a chain of two pairs") && !is_missing("version 2, Judge: a chain of one pair"));
+        assert!(is_missing("version 2, JudgePatch: a chain of one pair") && is_missing("version 1, Judge: a chain of one pair"));
         assert!(is_missing("version 2, Write:  9 kind over 4 in version 1, over 9 in version 2"));
         assert!(is_missing("no such version, or a text, Read:  4 version not 1 or 2"));
         assert!(is_missing("no such version, or a text, Text: 17 bad text"));
@@ -232,6 +270,12 @@ mod tests {
     #[should_panic(expected = "Read refused by 13, which is none of its refusals")]
     fn stops_at_a_refusal_of_another_service() {
         count(Service::Read, raw::Answer::REFUSED, 13);
+    }
+
+    #[test]
+    #[should_panic(expected = "JudgePatch showed a chain of no pair")]
+    fn stops_at_an_empty_chain() {
+        show(Service::JudgePatch, 0);
     }
 
     #[test]

@@ -142,7 +142,7 @@ fn main() {
             short_routines(random, 2)
         }
     };
-    let counts = count_changes((listings, seed), listing, &MISTAKES);
-    println!("{listings} random listings, each under {QUESTIONS} questions: all alike; what a mistake changes:\n{counts}");
-    counts.must_be_as_marked();
+    let changes = count_changes((listings, seed), listing, &MISTAKES).changes;
+    println!("{listings} random listings, each under {QUESTIONS} questions: all alike; what a mistake changes:\n{changes}");
+    changes.must_be_as_marked();
 }

@@ -14,11 +14,14 @@ const SEED: u64 = 2028;
 const MOST_NODES: usize = 12;
 
 /// Rules that one may mistake for ours: whether two reads would meet whose locations do.
+///
+/// Where more reads meet, a pair that fails all the same hardly has another chain: it would go by a read that nobody writes and back, by
+/// three pairs or more. Where such a read meets only unknown ones or itself, there is a shorter way.
 const MISTAKES: [(Row, MayReadsMeet); 12] = [
-    (("any two reads meet", "+-++++"), MayReadsMeet(|_| true)),
-    (("a writer of one of them is enough", "+-++++"), MayReadsMeet(|reads| reads.may_be_met(1, |node| node.kind.writes()))),
-    (("plain nodes and fences write", "+-++++"), MayReadsMeet(|reads| reads.may_be_met(2, |node| !node.kind.is_read()))),
-    (("a read always meets itself", "+-+?++"), MayReadsMeet(|reads| reads.are_one || reads.written(|_| true))),
+    (("any two reads meet", "+-+?++"), MayReadsMeet(|_| true)),
+    (("a writer of one of them is enough", "+-+-++"), MayReadsMeet(|reads| reads.may_be_met(1, |node| node.kind.writes()))),
+    (("plain nodes and fences write", "+-+?++"), MayReadsMeet(|reads| reads.may_be_met(2, |node| !node.kind.is_read()))),
+    (("a read always meets itself", "+-+-++"), MayReadsMeet(|reads| reads.are_one || reads.written(|_| true))),
     (("unknown reads always meet", "+----+"), MayReadsMeet(|reads| reads.are_unknown() || reads.written(|_| true))),
     (("no two reads meet", "-+++++"), MayReadsMeet(|_| false)),
     (("an RMW writes nothing", "-+++++"), MayReadsMeet(|reads| reads.written(|writer| writer.kind != Kind::Rmw))),
@@ -77,7 +80,7 @@ fn main() {
         let nodes = random.from_to(1, MOST_NODES);
         random_listing(random, nodes)
     };
-    let counts = count_changes((listings, seed), listing, &MISTAKES);
-    println!("{listings} random listings, each under {QUESTIONS} questions: all alike; what a mistake changes:\n{counts}");
-    counts.must_be_as_marked();
+    let changes = count_changes((listings, seed), listing, &MISTAKES).changes;
+    println!("{listings} random listings, each under {QUESTIONS} questions: all alike; what a mistake changes:\n{changes}");
+    changes.must_be_as_marked();
 }

@@ -1,7 +1,11 @@
-//! Which routines may be judged apart: what people are told whose listing has too many nodes.
+//! Which routines may be judged apart: what people are told whose listing has too many nodes. And that each counts for any number of
+//! threads, so that none is listed again.
 
-use inputs::{bytes, is_access, nodes, random_listing_of, sketch, version, Random, Record, LAST_CELL, NONE, ROUTINES, VERSIONS};
-use nyekushiro::{judge, read, Question};
+use inputs::{
+    bytes, is_access, nodes, random_listing, random_listing_of, sketch, vague_listing, version, Random, Record, LAST_CELL, NONE,
+    ROUTINES, VERSIONS,
+};
+use nyekushiro::{judge, propose, read, Answer, Question};
 
 fn is_robust(question: Question, listing: &[u8]) -> bool {
     judge(question, listing).unwrap().is_robust()
@@ -34,6 +38,32 @@ fn groups_that_share_no_cell_and_know_their_locations_may_be_parted() {
         }
     }
     assert!(met.iter().all(|&count| count > 1000), "both answers are met: {met:?}");
+}
+
+/// "Each routine may run in any number of threads at once."
+#[test]
+fn routines_listed_again_change_nothing() {
+    let mut random = Random::seeded(24);
+    let (mut robust, mut alone, mut longer) = (0, 0, 0);
+    for _ in 0..2000 {
+        let nodes = random.below(13);
+        let made = random.one_of(&[random_listing, vague_listing]);
+        let once = made(&mut random, nodes);
+        let Some(again) = joined(&once, &once) else { continue };
+        for question in Question::ALL {
+            let answer = judge(question, &once).unwrap();
+            assert_eq!(answer, judge(question, &again).unwrap());
+            let map = propose(question, &once).unwrap();
+            assert_eq!(propose(question, &again).unwrap().as_bytes(), map.as_bytes().repeat(2));
+            match answer {
+                Answer::Robust => robust += 1,
+                Answer::Open { chain, .. } if chain.pairs().len() == 1 => alone += 1,
+                Answer::Open { .. } => longer += 1,
+            }
+        }
+    }
+    let met = [robust, alone, longer];
+    assert!(met.iter().all(|&count| count > 1000), "ROBUST, chains of one pair and longer ones are met: {met:?}");
 }
 
 /// The same listing with odd or even locations alone, and none that is unknown.

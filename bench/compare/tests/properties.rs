@@ -130,16 +130,19 @@ fn chain_is_a_chain() {
         };
         let pairs = chain.pairs();
         assert_eq!(pairs[0], (first, second));
-        assert!((2..=nodes(listing) + 1).contains(&pairs.len()));
+        assert!((1..=nodes(listing) + 1).contains(&pairs.len()));
         let records = Record::all(listing);
-        for (at, pair) in pairs.iter().enumerate() {
-            assert!(!pairs[..at].contains(pair), "all different");
-            let (end, next) = (records[pair.1], records[pairs[(at + 1) % pairs.len()].0]);
-            assert!(overlap(&end, &next), "each joined to the next, and the last to the first");
+        let joined = |pair: (usize, usize), next: (usize, usize)| {
+            let (end, next) = (records[pair.1], records[next.0]);
             let somebody_writes = || writers(&records).any(|writer| overlap(writer, &end) && overlap(writer, &next));
             let two_reads = READS.contains(&end.kind) && READS.contains(&next.kind);
-            assert!(!two_reads || somebody_writes(), "two reads by way of somebody who writes");
+            overlap(&end, &next) && (!two_reads || somebody_writes())
+        };
+        for (at, pair) in pairs.iter().enumerate() {
+            assert!(!pairs[..at].contains(pair), "all different");
+            assert!(joined(*pair, pairs[(at + 1) % pairs.len()]), "each joined to the next, and the last to the first");
         }
+        assert_eq!(pairs.len() == 1, joined(pairs[0], pairs[0]), "one pair exactly if it is joined to itself");
     });
 }
 

@@ -17,7 +17,7 @@ mod typed;
 
 pub use calls::Call;
 pub use damage::damaged;
-pub use listings::{random_listing, random_listing_of, short_routines, tiny_listing};
+pub use listings::{random_listing, random_listing_of, short_routines, tiny_listing, vague_listing};
 pub use long_texts::{items, nested_blanks, LongText};
 pub use numbers::*;
 pub use random::Random;

@@ -29,6 +29,13 @@ struct Palette {
     block_once_in: usize,
 }
 
+/// What a listing's palette is chosen from.
+struct Palettes {
+    cells: &'static [usize],
+    unknown_once_in: &'static [usize],
+    block_once_in: &'static [usize],
+}
+
 /// The kinds of a listing's nodes, each as often as it stands there.
 type Kinds = &'static [u8];
 
@@ -89,8 +96,10 @@ const CHOICES: [Choices; VERSIONS.len()] = [
     },
 ];
 
-/// How many cells a listing has.
-const CELLS: &[usize] = &[1, 2, 3, 5, 12, 200];
+const ANY: Palettes = Palettes { cells: &[1, 2, 3, 5, 12, 200], unknown_once_in: &[4, 20, 1000], block_once_in: &[2, 8, 1000] };
+const FEW_CELLS: Palettes = Palettes { cells: &[1, 2, 3, 5], ..ANY };
+/// Few accesses are of one known cell.
+const VAGUE: Palettes = Palettes { cells: &[1, 2, 3], unknown_once_in: &[2, 4, 20], block_once_in: &[2, 2, 8] };
 
 /// A good listing with this many nodes, of either version.
 pub fn random_listing(random: &mut Random, nodes: usize) -> Vec<u8> {
@@ -112,7 +121,14 @@ pub fn random_listing_of(random: &mut Random, version: u8, nodes: usize) -> Vec<
     }
     let most = random.one_of(&[4, 4, 4, ROUTINES]);
     let routines = random.from_to(1, most);
-    of_any_links(random, choices, nodes, routines, CELLS)
+    of_any_links(random, choices, nodes, routines, &ANY)
+}
+
+/// A good listing with this many nodes, of either version, with many blocks and unknown locations: pairs may be joined to themselves.
+pub fn vague_listing(random: &mut Random, nodes: usize) -> Vec<u8> {
+    let choices = Choices::of(random.one_of(&VERSIONS));
+    let routines = random.from_to(1, 3);
+    of_any_links(random, choices, nodes, routines, &VAGUE)
 }
 
 /// A good listing of this version in which two or three short routines hand something over: on what stands between two accesses, and on
@@ -122,12 +138,17 @@ pub fn short_routines(random: &mut Random, version: u8) -> Vec<u8> {
     handed_over(random, Choices::of(version), nodes)
 }
 
-/// A good listing of at most five nodes and four accesses, of either version, for the search through everything.
+/// A good listing of either version for the search through everything: at most five nodes and four accesses, or a ring of at most four
+/// pieces, whose chains have more pairs.
 pub fn tiny_listing(random: &mut Random) -> Vec<u8> {
     loop {
         let choices = Choices::of(random.one_of(&VERSIONS));
+        if random.once_in(8) {
+            let nodes = random.from_to(6, 9);
+            return ring(random, choices, nodes);
+        }
         let (nodes, routines) = (random.from_to(1, 5), random.from_to(1, 2));
-        let listing = of_any_links(random, choices, nodes, routines, &[1, 2, 3, 5]);
+        let listing = of_any_links(random, choices, nodes, routines, &FEW_CELLS);
         if Record::all(&listing).iter().filter(|record| is_access(record.kind)).count() <= 4 {
             return listing;
         }
@@ -137,7 +158,7 @@ pub fn tiny_listing(random: &mut Random) -> Vec<u8> {
 /// A good listing of four routines with loops and every kind of its version.
 pub fn woven(random: &mut Random, version: u8, nodes: usize) -> Vec<u8> {
     let choices = Choices::of(version);
-    listing(random, choices, nodes, 4, Links::Loops, CELLS, choices.mixed)
+    listing(random, choices, nodes, 4, Links::Loops, &ANY, choices.mixed)
 }
 
 impl Choices {
@@ -146,10 +167,10 @@ impl Choices {
     }
 }
 
-fn of_any_links(random: &mut Random, choices: &Choices, nodes: usize, routines: usize, cells: &[usize]) -> Vec<u8> {
+fn of_any_links(random: &mut Random, choices: &Choices, nodes: usize, routines: usize, palettes: &Palettes) -> Vec<u8> {
     let links = random.one_of(&[Links::Line, Links::Branches, Links::Loops, Links::Anywhere, Links::Pieces]);
     let kinds = if random.once_in(4) { choices.few_writers } else { choices.mixed };
-    listing(random, choices, nodes, routines, links, cells, kinds)
+    listing(random, choices, nodes, routines, links, palettes, kinds)
 }
 
 fn listing(
@@ -158,14 +179,14 @@ fn listing(
     nodes: usize,
     routines: usize,
     links: Links,
-    cells: &[usize],
+    palettes: &Palettes,
     kinds: &[Kinds],
 ) -> Vec<u8> {
     let owners = owners(random, nodes, routines);
     let palette = Palette {
-        cells: random.one_of(cells),
-        unknown_once_in: random.one_of(&[4, 20, 1000]),
-        block_once_in: random.one_of(&[2, 8, 1000]),
+        cells: random.one_of(palettes.cells),
+        unknown_once_in: random.one_of(palettes.unknown_once_in),
+        block_once_in: random.one_of(palettes.block_once_in),
     };
     let kinds = random.one_of(kinds);
     let records: Vec<Record> = (0..nodes)

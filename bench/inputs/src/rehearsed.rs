@@ -24,11 +24,26 @@ const fn as_on_armv7([one, two, three, four]: [&'static str; 4]) -> Lines {
     [one, two, three, four, two, three]
 }
 
+/// The lines where this one is said of a pair that starts with a read or an RMW.
+const fn on_arm(line: &'static str) -> Lines {
+    as_on_armv7([ROBUST, line, line, line])
+}
+
+/// The lines where this one is said of two writes.
+const fn of_writes(line: &'static str) -> Lines {
+    as_on_armv7([ROBUST, line, line, ROBUST])
+}
+
+/// The lines where this one is said of write then read, and no RMW is between.
+const fn write_then_read(line: &'static str) -> Lines {
+    as_on_armv7([line, line, ROBUST, ROBUST])
+}
+
 /// The lines where 0-1 and 2-3 close a chain, and each starts with a read.
-const ON_ARM: Lines = as_on_armv7([ROBUST, "OPEN 0 1 2 0-1 2-3", "OPEN 0 1 2 0-1 2-3", "OPEN 0 1 2 0-1 2-3"]);
+const ON_ARM: Lines = on_arm("OPEN 0 1 2 0-1 2-3");
 
 /// The lines where 0-1 and 2-3 close a chain, each is write then read, and no RMW is between.
-const STORE_BUFFERING: Lines = as_on_armv7(["OPEN 0 1 2 0-1 2-3", "OPEN 0 1 2 0-1 2-3", ROBUST, ROBUST]);
+const STORE_BUFFERING: Lines = write_then_read("OPEN 0 1 2 0-1 2-3");
 
 /// The lines of 1 to 4 where 0-2 and 3-5 close a chain, two writes and two reads; and those of 5 and 6.
 const fn message_passing(five: &'static str, six: &'static str) -> Lines {
@@ -69,10 +84,11 @@ pub const CASES: &[Case] = &[
         map: &[0; 6],
         lines: as_on_armv7(["OPEN 0 2 2 0-2 3-5", "OPEN 0 2 2 0-2 3-5", ROBUST, ROBUST]),
     },
-    Case { name: "J", listing: "w32769 r32769; w32769 r32769", map: &[0; 4], lines: STORE_BUFFERING },
+    Case { name: "J", listing: "w32769 r32769; w32769 r32769", map: &[0; 4], lines: write_then_read("OPEN 0 1 1 0-1") },
     Case { name: "J with the cell x", listing: "w1 r1; w1 r1", map: &[0; 4], lines: [ROBUST; QUESTIONS] },
     Case { name: "K", listing: "w1>1 r2>0", map: &[0; 2], lines: [ROBUST; QUESTIONS] },
-    Case { name: "L", listing: "w0 w0", map: &[0; 2], lines: [ROBUST; QUESTIONS] },
+    // the crossfade
+    Case { name: "L", listing: "w0 w0", map: &[0; 2], lines: of_writes("OPEN 0 1 1 0-1") },
     Case { name: "M", listing: "", map: &[], lines: [ROBUST; QUESTIONS] },
     Case {
         name: "K written",
@@ -86,10 +102,68 @@ pub const CASES: &[Case] = &[
     Case { name: "an unknown cell", listing: "r1 r2; r2 r1; w0", map: &[0; 5], lines: ON_ARM },
     Case { name: "an unknown RMW", listing: "r1 r2; r2 r1; u0", map: &[0; 5], lines: ON_ARM },
     Case { name: "no writer", listing: "r1 r2; r2 r1; p; f", map: &[0; 6], lines: [ROBUST; QUESTIONS] },
-    Case { name: "an unknown read", listing: "r0 w2; r2 r1", map: &[0; 4], lines: [ROBUST; QUESTIONS] },
-    Case { name: "and its cell written", listing: "r0 w2; r2 r1; w1", map: &[0; 5], lines: ON_ARM },
+    // the write may meet one of the two reads alone
+    Case { name: "an unknown read", listing: "r0 r1; w2", map: &[0; 3], lines: [ROBUST; QUESTIONS] },
+    Case { name: "and the other's cell written", listing: "r0 r1; w2; w1", map: &[0; 4], lines: on_arm("OPEN 0 1 1 0-1") },
     Case { name: "unknown reads", listing: "r0 r0; r0 r0", map: &[0; 4], lines: [ROBUST; QUESTIONS] },
-    Case { name: "and any cell written", listing: "r0 r0; r0 r0; w3", map: &[0; 5], lines: ON_ARM },
+    Case { name: "and any cell written", listing: "r0 r0; r0 r0; w3", map: &[0; 5], lines: on_arm("OPEN 0 1 1 0-1") },
+    // pairs joined to themselves: the crossfade, L, and what is left of it where something is known or fenced
+    Case { name: "L with a fence", listing: "w0 w0", map: &[1, 0], lines: [ROBUST; QUESTIONS] },
+    Case { name: "L and once more", listing: "w0 w0; w0 w0", map: &[0; 4], lines: of_writes("OPEN 0 1 1 0-1") },
+    Case { name: "L with one channel known", listing: "w1 w0", map: &[0; 2], lines: of_writes("OPEN 0 1 1 0-1") },
+    Case { name: "L with both channels known", listing: "w1 w2", map: &[0; 2], lines: [ROBUST; QUESTIONS] },
+    Case {
+        name: "and called the opposite way round",
+        listing: "w1 w2; w2 w1",
+        map: &[0; 4],
+        lines: of_writes("OPEN 0 1 2 0-1 2-3"),
+    },
+    Case { name: "L with RMWs", listing: "u0 u0", map: &[0; 2], lines: on_arm("OPEN 0 1 1 0-1") },
+    Case { name: "an unknown write, then a read", listing: "w0 r1", map: &[0; 2], lines: write_then_read("OPEN 0 1 1 0-1") },
+    Case { name: "an unknown read, then a write", listing: "r0 w2; r2 r1", map: &[0; 4], lines: on_arm("OPEN 0 1 1 0-1") },
+    Case { name: "two unknown reads", listing: "r0 r0", map: &[0; 2], lines: [ROBUST; QUESTIONS] },
+    Case { name: "and a cell written", listing: "r0 r0; w3", map: &[0; 3], lines: on_arm("OPEN 0 1 1 0-1") },
+    // a node with itself
+    Case { name: "a block written in a loop", listing: "p>1 w32769>0", map: &[0; 2], lines: of_writes("OPEN 1 1 1 1-1") },
+    Case { name: "a block written again and again", listing: "w32769>0", map: &[0; 1], lines: of_writes("OPEN 0 0 1 0-0") },
+    Case { name: "with a fence", listing: "w32769>0", map: &[1], lines: [ROBUST; QUESTIONS] },
+    Case { name: "a cell written again and again", listing: "w1>0", map: &[0; 1], lines: [ROBUST; QUESTIONS] },
+    Case { name: "an unknown RMW again and again", listing: "u0>0", map: &[0; 1], lines: on_arm("OPEN 0 0 1 0-0") },
+    Case { name: "a block read again and again", listing: "r32769>0", map: &[0; 1], lines: [ROBUST; QUESTIONS] },
+    Case { name: "and another block written", listing: "r32769>0; w32770", map: &[0; 2], lines: [ROBUST; QUESTIONS] },
+    Case { name: "and the same written", listing: "r32769>0; w32769", map: &[0; 2], lines: on_arm("OPEN 0 0 1 0-0") },
+    // the first failing pair is shown, and not the one with the shortest chain
+    Case {
+        name: "a chain of two before one of one",
+        listing: "w1 w2; w2 w1; w32769 w32769",
+        map: &[0; 6],
+        lines: of_writes("OPEN 0 1 2 0-1 2-3"),
+    },
+    Case {
+        name: "and its two pairs fenced",
+        listing: "w1 w2; w2 w1; w32769 w32769",
+        map: &[1, 0, 1, 0, 0, 0],
+        lines: of_writes("OPEN 4 5 1 4-5"),
+    },
+    // and with what ARMv8 keeps in order
+    Case {
+        name: "L released",
+        listing: "w0 l0",
+        map: &[0; 2],
+        lines: [ROBUST, "OPEN 0 1 1 0-1", "OPEN 0 1 1 0-1", ROBUST, ROBUST, ROBUST],
+    },
+    Case {
+        name: "L with a store fence",
+        listing: "w0 s w0",
+        map: &[0; 3],
+        lines: [ROBUST, "OPEN 0 2 1 0-2", "OPEN 0 2 1 0-2", ROBUST, ROBUST, ROBUST],
+    },
+    Case {
+        name: "two unknown reads that acquire",
+        listing: "a0 q0; l3",
+        map: &[0; 3],
+        lines: [ROBUST, "OPEN 0 1 1 0-1", "OPEN 0 1 1 0-1", "OPEN 0 1 1 0-1", ROBUST, ROBUST],
+    },
     // message passing by accesses that ARMv8 keeps in order
     Case {
         name: "released and acquired",

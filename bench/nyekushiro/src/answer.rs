@@ -24,13 +24,16 @@ pub struct Size {
 /// // the same without 2: nobody writes y
 /// let listing = b"ORD\x01\x00\x01\x02\x00\x02\x01\x00\x01\xff\x00\x01\x02\x00\x00\xff";
 /// assert_eq!(judge(Question::ScOnX86, listing)?.to_string(), "ROBUST");
+/// // a crossfade, 0 and 1 write to cells that are not known: two threads may be given them the opposite way round
+/// let listing = b"ORD\x01\x00\x01\x02\x00\x02\x00\x00\x01\xff\x00\x02\x00\x00\xff\xff";
+/// assert_eq!(judge(Question::ScOnArmv7, listing)?.to_string(), "OPEN 0 1 1 0-1");
 /// # Ok::<(), nyekushiro::Refusal>(())
 /// ```
 #[derive(Clone, Debug, PartialEq, Eq)]
 pub enum Answer {
-    /// No pair fails. Left out is a circle that one pair closes with copies of itself alone: where a location is unknown or a block,
-    /// list that routine twice. Whoever writes a shared cell while the routines run must be in the listing, be it a loader or a device
-    /// that writes it once: reads of a cell that nobody in the listing writes are taken not to matter (docs/LISTING.md).
+    /// No pair fails, in however many threads each routine runs. Whoever writes a shared cell while they run must be in the listing,
+    /// be it a loader or a device that writes it once: reads of a cell that nobody in the listing writes are taken not to matter
+    /// (docs/LISTING.md).
     Robust,
     /// A pair fails: the rules do not assure that others see its nodes in order.
     Open {
@@ -59,7 +62,8 @@ impl fmt::Display for Answer {
     }
 }
 
-/// The chain of a failing pair: each pair is joined to the next, and the last to the first. Its `Display` is its pairs, as `0-1 2-3`.
+/// The chain of a failing pair: each pair is joined to the next, and the last to the first. It has one pair where that is joined to itself,
+/// as it may be where a location is unknown or a block. Its `Display` is its pairs, as `0-1 2-3`.
 #[derive(Clone, Debug, PartialEq, Eq)]
 pub struct Chain(Vec<(usize, usize)>);
 

@@ -37,11 +37,16 @@ pub fn pairs(listing: &Listing) -> Vec<Vec<Pair>> {
     pairs
 }
 
-/// The shown chain through a pair, or none if it lies on no chain.
+/// The shown chain through a pair, or none if it lies on no chain: "a list of pairs, all different, at least one, starting with it, each
+/// joined to the next and the last to the first".
 ///
 /// The search finds pairs by the number of pairs that lead to them, and among those in the order of the smallest list that
-/// does: the first one found that is joined to `start` ends the chain to show. No pair is found twice, so all are different.
+/// does: the first one found that is joined to `start` ends the chain to show. No pair is found again, so all are different.
 pub fn shown_chain(listing: &Listing, pairs: &[Vec<Pair>], start: Pair, rules: &impl Rules) -> Option<Vec<Pair>> {
+    // "A pair joined to itself is a chain of one pair", and no chain has fewer
+    if rules.joined_to_itself(listing, start) {
+        return Some(vec![start]);
+    }
     let count = listing.nodes.len();
     let mut found = vec![(start, 0)];
     let mut known = vec![false; count * count];
@@ -51,6 +56,7 @@ pub fn shown_chain(listing: &Listing, pairs: &[Vec<Pair>], start: Pair, rules: &
     let mut at = 0;
     while at < found.len() {
         let (pair, _) = found[at];
+        // "A pair (a, b) is joined to a pair (c, d), itself or another, if b and c may meet."
         if at > 0 && rules.may_meet(listing, pair.1, start.0) {
             return Some(list_back(&found, at));
         }

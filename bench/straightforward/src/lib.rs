@@ -27,7 +27,7 @@ mod verdict;
 mod walks;
 mod words;
 
-pub use chains::{may_meet, Pair};
+pub use chains::{may_meet, shown_chain, Pair};
 pub use listing::{Kind, Listing, Node, HEADING, MOST_NODES, MOST_ROUTINES, NONE, RECORD, VERSIONS};
 pub use need::{is_barrier, keeps_in_order, needs_order, Question};
 pub use refusals::Refusal;

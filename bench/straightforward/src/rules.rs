@@ -1,13 +1,21 @@
 //! The rules of order together, so that one of them may be taken for another.
 
-use crate::chains;
+use crate::chains::{self, Pair};
 use crate::listing::{Kind, Listing};
 use crate::need::{self, Question};
 
 /// The rules of order as they are, but for those that are said otherwise.
-pub trait Rules {
+pub trait Rules: Sized {
     fn may_meet(&self, listing: &Listing, one: usize, other: usize) -> bool {
         chains::may_meet(listing, one, other)
+    }
+
+    fn joined_to_itself(&self, listing: &Listing, pair: Pair) -> bool {
+        self.may_meet(listing, pair.1, pair.0)
+    }
+
+    fn shown_chain(&self, listing: &Listing, pairs: &[Vec<Pair>], start: Pair) -> Option<Vec<Pair>> {
+        chains::shown_chain(listing, pairs, start, self)
     }
 
     fn needs_order(&self, question: Question, first: Kind, second: Kind, rmw_inside: bool) -> bool {

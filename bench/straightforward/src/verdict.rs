@@ -1,6 +1,6 @@
 //! Failing pairs, and the first of them with its chain.
 
-use crate::chains::{pairs, shown_chain, surely_meet, Pair};
+use crate::chains::{pairs, surely_meet, Pair};
 use crate::listing::{Kind, Kinds, Listing};
 use crate::need::Question;
 use crate::rules::{AsTheyAre, Rules};
@@ -51,7 +51,7 @@ impl<R: Rules> Judged<'_, R> {
                 && unbarred.lead_to(pair.1, self.barriers(one.kind, other.kind));
             // the longest question is asked last
             if fails {
-                shown_chain(self.listing, &self.pairs, pair, self.rules)
+                self.rules.shown_chain(self.listing, &self.pairs, pair)
             } else {
                 None
             }

@@ -23,10 +23,23 @@ const NEED: [[&str; ACCESSES.len()]; 6] = [
     ["nnnn-n", "unnu-u", "nnnn-n", "------", "unn--u", "------"],
 ];
 
+/// The rules, or others that one may mistake for them.
+#[derive(Clone, Copy)]
+struct Rule {
+    /// says of two reads, if given, that they always meet at a location, or never do
+    two_reads: Option<bool>,
+    /// the fewest pairs of a chain
+    fewest: usize,
+}
+
+/// Reads meet where somebody writes, and a pair whose second node may meet its first closes a chain alone.
+const RIGHT: Rule = Rule { two_reads: None, fewest: 1 };
+
 struct Tiny<'a> {
     records: Vec<&'a [u8]>,
     walks: Vec<Walk>,
     question: u64,
+    rule: Rule,
     /// who may meet whom
     meetings: Vec<Vec<bool>>,
 }
@@ -47,8 +60,8 @@ impl<'a> Tiny<'a> {
             }
             last = longer;
         }
-        let mut tiny = Tiny { records, walks, question, meetings: Vec::new() };
-        tiny.meetings = tiny.who_meets(None);
+        let mut tiny = Tiny { records, walks, question, rule: RIGHT, meetings: Vec::new() };
+        tiny.meetings = tiny.who_meets();
         tiny
     }
 
@@ -76,8 +89,8 @@ impl<'a> Tiny<'a> {
     }
 
     /// Who may meet whom, by trying every location: both may be there, and where both are reads, somebody who writes may be there
-    /// too. `two_reads`, if given, says that reads always meet there, or never.
-    fn who_meets(&self, two_reads: Option<bool>) -> Vec<Vec<bool>> {
+    /// too.
+    fn who_meets(&self) -> Vec<Vec<bool>> {
         let nodes = || 0..self.records.len();
         let may_be = |node: usize, there: u16| [0, there].contains(&self.location(node));
         let is_written = |there: u16| nodes().any(|node| [2, 3, 6].contains(&self.kind(node)) && may_be(node, there));
@@ -85,7 +98,7 @@ impl<'a> Tiny<'a> {
             let reads = [one, other].iter().all(|&node| [1, 5, 9].contains(&self.kind(node)));
             let may_both_be = |there: &u16| may_be(one, *there) && may_be(other, *there);
             let mut shared = nodes().map(|node| self.location(node)).filter(may_both_be);
-            shared.any(|there| !reads || two_reads.unwrap_or_else(|| is_written(there)))
+            shared.any(|there| !reads || self.rule.two_reads.unwrap_or_else(|| is_written(there)))
         };
         nodes().map(|one| nodes().map(|other| meet(one, other)).collect()).collect()
     }
@@ -94,10 +107,14 @@ impl<'a> Tiny<'a> {
         self.meetings[one][other]
     }
 
-    /// What `judge` says by the rules, if reads always met at a location, and if they never did.
-    fn by_each_rule<T>(mut self, judge: impl Fn(&Self) -> T) -> [T; 3] {
-        [None, Some(true), Some(false)].map(|two_reads| {
-            self.meetings = self.who_meets(two_reads);
+    /// What `judge` says by the rules, if reads always met at a location, if they never did, and if no pair alone were a chain.
+    fn by_each_rule<T>(mut self, judge: impl Fn(&Self) -> T) -> [T; 4] {
+        let always = Rule { two_reads: Some(true), ..RIGHT };
+        let never = Rule { two_reads: Some(false), ..RIGHT };
+        let not_alone = Rule { fewest: 2, ..RIGHT };
+        [RIGHT, always, never, not_alone].map(|rule| {
+            self.rule = rule;
+            self.meetings = self.who_meets();
             judge(&self)
         })
     }
@@ -129,7 +146,7 @@ impl<'a> Tiny<'a> {
     /// All the chains that go on from `list`, with at most `most` pairs, given to `see`.
     fn chains(&self, pairs: &[Pair], list: &mut Vec<Pair>, most: usize, see: &mut impl FnMut(&[Pair])) {
         let last = list[list.len() - 1];
-        if list.len() >= 2 && self.may_meet(last.1, list[0].0) {
+        if list.len() >= self.rule.fewest && self.may_meet(last.1, list[0].0) {
             see(list);
         }
         if list.len() == most {
@@ -178,10 +195,11 @@ impl<'a> Tiny<'a> {
         })
     }
 
-    /// Some closed chain goes on from these steps: "at least two, repeats allowed, not all of the same pair of nodes".
+    /// Some closed chain goes on from these steps: "a list of at least two, repeats allowed".
     fn on_ring(&self, pairs: &[Pair], steps: &mut Vec<Pair>, most: usize) -> bool {
         let last = steps[steps.len() - 1];
-        if steps.iter().any(|&step| step != steps[0]) && self.may_meet(last.1, steps[0].0) {
+        let are_enough = self.rule.fewest == 1 || steps.iter().any(|&step| step != steps[0]);
+        if steps.len() >= 2 && are_enough && self.may_meet(last.1, steps[0].0) {
             return true;
         }
         steps.len() < most
@@ -196,26 +214,43 @@ impl<'a> Tiny<'a> {
     }
 }
 
-/// How often a verdict turned on which reads meet.
+/// How often a verdict turned on which reads meet, and on chains of one pair.
 #[derive(Default, Debug)]
 struct Turned {
     /// it would be OPEN if reads always met at a location
-    to_robust: usize,
+    unwritten: usize,
     /// it would be ROBUST if they never did
-    to_open: usize,
+    written: usize,
+    /// it would be ROBUST if no pair alone were a chain
+    alone: usize,
 }
 
 impl Turned {
-    fn count(&mut self, [robust, always, never]: [bool; 3]) {
-        self.to_robust += (robust && !always) as usize;
-        self.to_open += (!robust && never) as usize;
+    fn count(&mut self, [robust, always, never, not_alone]: [bool; 4]) {
+        self.unwritten += (robust && !always) as usize;
+        self.written += (!robust && never) as usize;
+        self.alone += (!robust && not_alone) as usize;
     }
 
     fn must_be_over(&self, least: usize) {
         assert!(
-            self.to_robust > least && self.to_open > least,
-            "too few verdicts turn on which reads meet to mean anything: {self:?}"
+            [self.unwritten, self.written, self.alone].iter().all(|&count| count > least),
+            "too few verdicts turn on a rule to mean anything: {self:?}"
         );
+    }
+}
+
+/// How often a shown chain had one pair, two pairs, and more.
+#[derive(Default, Debug)]
+struct Shown([usize; 3]);
+
+impl Shown {
+    fn count(&mut self, chain: &[Pair]) {
+        self.0[chain.len().min(3) - 1] += 1;
+    }
+
+    fn must_be_over(&self, least: usize) {
+        assert!(self.0.iter().all(|&count| count > least), "too few chains of a length to mean anything: {self:?}");
     }
 }
 
@@ -252,7 +287,7 @@ fn judged(question: u64, listing: &[u8], map: &[u8]) -> Option<Vec<Pair>> {
 #[test]
 fn verdict_chain_and_proposal_by_trying_everything() {
     let mut random = Random::seeded(1);
-    let (mut met, mut long, mut turned) = (Met::default(), 0, Turned::default());
+    let (mut met, mut shown, mut turned) = (Met::default(), Shown::default(), Turned::default());
     for _ in 0..20000 {
         let listing = tiny_listing(&mut random);
         let nodes = listing[6] as usize;
@@ -266,12 +301,14 @@ fn verdict_chain_and_proposal_by_trying_everything() {
             assert_eq!(propose(question, &listing, &mut map).unwrap(), expected.iter().filter(|&&byte| byte == 1).count());
             assert_eq!(map, expected, "{question} {listing:?}");
             met.count(question, &listing, failing.is_empty());
-            long += failing.iter().any(|chain| chain.len() > 2) as usize;
+            if let Some(chain) = failing.first() {
+                shown.count(chain);
+            }
         }
     }
-    assert!(long > 300, "too few long chains ({long}) to mean anything");
-    met.must_be_over(100);
-    turned.must_be_over(500);
+    met.must_be_over(400);
+    shown.must_be_over(4000);
+    turned.must_be_over(400);
 }
 
 #[test]
@@ -284,7 +321,7 @@ fn demand_3_by_trying_short_closed_chains() {
         for question in 1..=6 {
             let mut chain = [0; CHAIN_BUFFER];
             let robust = judge(question, &listing, &mut chain).unwrap() == Answer::Robust;
-            // four accesses: no chain to show has more than five pairs
+            // four accesses or four pieces: no chain to show has more than five pairs
             let ordered = Tiny::new(question, &listing, links(&listing)).by_each_rule(|tiny| tiny.ordered(5));
             assert_eq!(ordered[0], robust, "{question} {listing:?}");
             met.count(question, &listing, robust);
@@ -294,8 +331,8 @@ fn demand_3_by_trying_short_closed_chains() {
             assert_eq!(judged(question, &listing, &map), None, "the proposal is not accepted: {question} {listing:?}");
         }
     }
-    met.must_be_over(10);
-    turned.must_be_over(25);
+    met.must_be_over(100);
+    turned.must_be_over(60);
 }
 
 #[test]
@@ -321,6 +358,6 @@ fn patches_by_trying_everything_on_the_written_listing() {
             assert!(pairs.iter().all(|pair| pair.0.max(pair.1) < map.len()), "a fence is no access");
         }
     }
-    met.must_be_over(10);
-    turned.must_be_over(25);
+    met.must_be_over(25);
+    turned.must_be_over(60);
 }

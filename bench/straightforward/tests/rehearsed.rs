@@ -110,8 +110,12 @@ fn limits() {
 #[test]
 fn shortcuts_that_look_right() {
     let cases = [
-        ("a write to a block can follow itself", 2, "w32768>0; w32768", "ROBUST"),
-        ("so it fails where another pair closes the chain", 2, "w32768>0; w32768 w32768", "OPEN 0 0 2 0-0 1-2"),
+        ("a write to a block can follow itself", 2, "w32768>0", "OPEN 0 0 1 0-0"),
+        ("and is a chain alone where others close one too", 2, "w32768>0; w32768 w32768", "OPEN 0 0 1 0-0"),
+        ("blocks join a pair to itself", 2, "w32768 w32768", "OPEN 0 1 1 0-1"),
+        ("two of them do not", 2, "w32768 w32769", "ROBUST"),
+        ("an unknown location does", 2, "w32768 w0", "OPEN 0 1 1 0-1"),
+        ("not every pair is joined to itself", 2, "w1 w2; w2", "ROBUST"),
         ("one neighbour before and one after do not close a chain", 2, "w1 w2; w2 w3; w4 w1", "ROBUST"),
         ("three pairs do", 2, "w1 w2; w2 w3; w3 w1", "OPEN 0 1 3 0-1 2-3 4-5"),
         ("an RMW inside a walk with a fence counts too", 3, "w1>1,4 f u9 f r2; w2 w1", "OPEN 0 4 2 0-4 5-6"),

@@ -117,14 +117,13 @@ fn blocks() {
           \x01\x01\x01\x00\xFF\xFF",
     );
     case(
-        b"own pairs",
-        b"ORD\x01\x00\x02\x02\
-          \x00\x02\x01\x80\x00\xFF\
-          \x01\x02\x01\x80\x01\xFF",
+        b"a block in a loop",
+        b"ORD\x01\x00\x01\x01\
+          \x00\x02\x01\x80\x00\xFF",
     );
 }
 
-// One routine: two writes, and no node at all.
+// One routine: a crossfade, which is two writes of unknown cells; and no node at all.
 fn one_routine() {
     case(
         b"L",

@@ -43,20 +43,35 @@ fn readers() {
 fn unknown_read() {
     case(
         b"an unknown read",
-        b"ORD\x01\x00\x02\x04\
+        b"ORD\x01\x00\x02\x03\
           \x00\x01\x00\x00\x01\xFF\
-          \x00\x02\x02\x00\xFF\xFF\
-          \x01\x01\x02\x00\x03\xFF\
-          \x01\x01\x01\x00\xFF\xFF",
+          \x00\x01\x01\x00\xFF\xFF\
+          \x01\x02\x02\x00\xFF\xFF",
     );
     case(
         b"and its cell written",
-        b"ORD\x01\x00\x03\x05\
+        b"ORD\x01\x00\x03\x04\
           \x00\x01\x00\x00\x01\xFF\
-          \x00\x02\x02\x00\xFF\xFF\
-          \x01\x01\x02\x00\x03\xFF\
-          \x01\x01\x01\x00\xFF\xFF\
+          \x00\x01\x01\x00\xFF\xFF\
+          \x01\x02\x02\x00\xFF\xFF\
           \x02\x02\x01\x00\xFF\xFF",
+    );
+}
+
+// Two reads of unknown cells in a row, a pair that is joined to itself only where somebody writes.
+fn unknown_reads() {
+    case(
+        b"unknown reads",
+        b"ORD\x01\x00\x01\x02\
+          \x00\x01\x00\x00\x01\xFF\
+          \x00\x01\x00\x00\xFF\xFF",
+    );
+    case(
+        b"and any cell written",
+        b"ORD\x01\x00\x02\x03\
+          \x00\x01\x00\x00\x01\xFF\
+          \x00\x01\x00\x00\xFF\xFF\
+          \x01\x02\x03\x00\xFF\xFF",
     );
 }
 
@@ -64,4 +79,5 @@ pub fn meeting() {
     loops();
     readers();
     unknown_read();
+    unknown_reads();
 }

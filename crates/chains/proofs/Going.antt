@@ -9,7 +9,7 @@ use lib.Seq.{take-suc-set, append-snoc, drop-set-lt, drop-drop}
 use Rattle.rows.specs.Inner.Least.{Least}
 use Rattle.rows.specs.Inner.Rows.{Members}
 use Rattle.chains.specs.Inner.Levels.{AtDistance, Into, Hits}
-use Rattle.chains.specs.Inner.Descent.{Mid, End, MidAt, EndAt, Steep, stop, down, Descends, Downhill, Wrote, Descent}
+use Rattle.chains.specs.Inner.Descent.{Mid, End, MidAt, EndAt, Steep, stop, down, Downhill, Wrote, Descent}
 use Rattle.rows.proofs.Searching.{least-found, least-same}
 use Rattle.chains.proofs.Rounds.{into-hits, hits-into}
 
@@ -27,24 +27,13 @@ take-pair o l i c y h =
 pub record Going (n : ℕ) (m w d o p : List ℕ) (x k a i r : ℕ) : Type 0 where
   pub long : length p ≡ length o
   pub low : a < n
-  pub ready : 0 < r → Descends n m w d a (r - 1)
-  pub bottom : r ≡ 0 → getD d a 0 ≡ 0
+  pub at : getD d a 0 ≡ r
   pub sum : i + 2 * r ≡ 2 * k
   pub leads : (l : List ℕ) → Steep n m w d r a l → Steep n m w d k x (take i p ++ l)
   pub beyond : drop i p ≡ drop i o
 
 pub going-none : (n : ℕ) (m w d o : List ℕ) (x k : ℕ) → Downhill n m w d o x k → Going n m w d o o x k x 0 k
-going-none n m w d o x k h =
-    let s = h .some in
-    record {
-      long = refl;
-      low = h .low;
-      ready = λ z. h .first;
-      bottom = λ e. absurd (omega arith);
-      sum = omega arith;
-      leads = λ l p. p;
-      beyond = refl;
-    }
+going-none n m w d o x k h = record { long = refl; low = h .low; at = h .at; sum = omega arith; leads = λ l p. p; beyond = refl }
 
 -- a turn: s keeps the nodes at the next distance, and c is the least middle of a pair into it
 module _ (n : ℕ) (m w d s o p : List ℕ) (x k a i r c : ℕ) (h : Downhill n m w d o x k) (pos : 0 < r) (g : Going n m w d o p x k a i r)
@@ -53,7 +42,9 @@ module _ (n : ℕ) (m w d s o p : List ℕ) (x k a i r c : ℕ) (h : Downhill n 
   into = hits-into n w s d (r - 1) (h .few) l
 
   pub mid-low : c < n
-  mid-low = let q = g .ready pos in least-found f (q .0) (omega arith) (q .1) (q .2 .0, into (q .0) (q .1) (q .2 .1))
+  mid-low =
+      let q = h .slope a (r - 1) (g .low) (omega arith) (omega arith) in
+      least-found f (q .0) (omega arith) (q .1) (q .2 .0, into (q .0) (q .1) (q .2 .1))
 
   mid-at : Least (MidAt n m w d (r - 1) a) 0 n c
   mid-at = least-same (λ z b q. (q .0, into z b (q .1))) (λ z b q. (q .0, into-hits n w s d (r - 1) (h .few) l z b (q .1))) f
@@ -68,17 +59,10 @@ module _ (n : ℕ) (m w d s o p : List ℕ) (x k a i r c : ℕ) (h : Downhill n 
 
     pub going-more : (q : List ℕ) → Wrote p q i c y → Going n m w d o q x k y (i + 2) (r - 1)
     going-more q wr =
-        let long = g .long in
-        let sum = g .sum in
-        let few = h .few in
-        let room = h .room in
-        let fits = h .fits in
-        let at : getD d y 0 ≡ r - 1 = end-at .here end-low .1 in
         rw wr (record {
-          long = simp length-set long;
+          long = simp length-set (g .long);
           low = end-low;
-          ready = λ z. h .slope y (r - 1 - 1) end-low (omega arith) (omega arith);
-          bottom = λ z. omega arith;
+          at = end-at .here end-low .1;
           sum = omega arith;
           leads = λ j z. rw (take-pair p j i c y (omega arith)) (g .leads (c ∷ y ∷ j) (whole (down mid-low mid-at end-low end-at z)));
           beyond =
@@ -92,11 +76,10 @@ module _ (n : ℕ) (m w d s o p : List ℕ) (x k a i r c : ℕ) (h : Downhill n 
 -- WHERE NO PAIR IS TO COME, THE DESCENT IS WRITTEN
 pub going-all : (n : ℕ) (m w d o p : List ℕ) (x k a i r : ℕ) → r ≤ 0 → Going n m w d o p x k a i r → Descent n m w d o p x k
 going-all n m w d o p x k a i r z g =
-    let u = g .sum in
     let e : i ≡ 2 * k = omega arith in
     let f : r ≡ 0 = omega arith in
     record {
-      steep = rw (append-nil, e) at (g .leads [] (subst (λ (b : ℕ). Steep n m w d b a []) (sym f) (stop (g .bottom f))));
+      steep = rw (append-nil, e) at (g .leads [] (subst (λ (b : ℕ). Steep n m w d b a []) (sym f) (stop (g .at ∙ f))));
       beyond = rw e at (g .beyond);
       long = g .long;
     }

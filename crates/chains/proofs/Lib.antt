@@ -3,7 +3,6 @@ pub mod Paths
 pub mod Starting
 pub mod Rounds
 pub mod Levels
-pub mod Nearing
 pub mod Going
 pub mod Strides
 pub mod Courses

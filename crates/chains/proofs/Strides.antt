@@ -1,5 +1,6 @@
 -- A hop and a pair as one step, a stride; and how distances fall along strides.
 use mathlib.Core.Path.{_≡_, refl}
+use mathlib.Core.Logic.{⊎-elim}
 use mathlib.Core.List.{List}
 use Prim.Native.Nat.{ℕ, suc, _≤_, _<_}
 use native.Mathlib.Omega.{arith}
@@ -35,18 +36,14 @@ stride-far n m w v hn c f =
     of-rows : (x y : ℕ) → Link n v x y → Stride n m w x y
     of-rows x y s = (s .0, s .1, of-link hn c x y s)
 
--- whatever x strides to is at distance r or further
-abbrev pub Lower : ℕ → List ℕ → List ℕ → List ℕ → ℕ → ℕ → Type 0
-Lower n m w d x r = (z : ℕ) → Stride n m w x z → r ≤ getD d z 0
-
-module _ (n : ℕ) (m w t d : List ℕ) (f : Far n (Stride n m w) (Goal n t) d) where
+module _ (n : ℕ) (m w t d : List ℕ) (hn : n ≤ 128) (f : Far n (Stride n m w) (Goal n t) d) where
   -- a stride loses at most one
-  pub lower : (x r : ℕ) → x < n → getD d x 0 ≡ suc r → suc r < unreached → Lower n m w d x r
-  lower x r hx e h z s = by (ℕ-discrete (getD d z 0) unreached)
+  pub lower : (x z : ℕ) → Stride n m w x z → getD d x 0 ≤ suc (getD d z 0)
+  lower x z s = by (ℕ-discrete (getD d z 0) unreached)
     where
-      by : Dec (getD d z 0 ≡ unreached) → r ≤ getD d z 0
-      by (yes q) = omega arith
-      by (no q) = let a = f .least x hx (suc (getD d z 0)) (step s (f .path z (s .1) q)) in omega arith
+      by : Dec (getD d z 0 ≡ unreached) → getD d x 0 ≤ suc (getD d z 0)
+      by (yes q) = ⊎-elim (λ b. omega arith) (λ b. omega arith) (f .bound x (s .0))
+      by (no q) = f .least x (s .0) (suc (getD d z 0)) (step s (f .path z (s .1) q))
 
   -- FROM EVERY DISTANCE BUT 0 THERE IS A WAY DOWN
   pub slope : Slope n m w d
@@ -55,6 +52,6 @@ module _ (n : ℕ) (m w t d : List ℕ) (f : Far n (Stride n m w) (Goal n t) d) 
       let u = first-step r p refl in
       let s = u .1 in
       let a = f .least (u .0) (s .1) r (u .2) in
-      let b = lower x r hx e h (u .0) s in
+      let b = lower x (u .0) s in
       let q = s .2 in
       (q .0, q .1, (q .2, (u .0, (q .1, s .1, q .3), omega arith)))

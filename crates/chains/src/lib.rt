@@ -7,7 +7,7 @@ ghost use Rattle.rows.specs.Inner.Least.{Least};
 ghost use Rattle.chains.specs.Inner.Far.{unreached, Far, Goal};
 ghost use Rattle.chains.specs.Inner.Courses.{Sought, ShownCourse};
 ghost use Rattle.chains.specs.Inner.Levels.{Starts, Started, AtDistance, Into, Hits, Swept};
-ghost use Rattle.chains.specs.Inner.Descent.{Nearest, Nearer, Mid, End, Downhill, Wrote, Descent};
+ghost use Rattle.chains.specs.Inner.Descent.{Mid, End, Downhill, Wrote, Descent};
 use listing::Listing;
 use rows::WORDS;
 
@@ -96,32 +96,6 @@ pub fn distances(n: usize, w: &[u64; WORDS], t: &[u64; 2], d: &mut [u8; Listing:
     while 0 < round(n, w, d, r) {
         r += 1;
     }
-}
-
-// The lesser of r and the distance of y, if y stands in row x.
-fn nearer(v: &[u64], d: &[u8], x: usize, y: usize, r: u8) -> u8
-    requires { ⌜ (2 * x + 1 < length (now v)) × (y < 128) × (y < length (now d)) ⌝ }
-    ensures { λ q. ⌜ Nearer (now (v .entry)) (now (d .entry)) x y r q ⌝ }
-{
-    if rows::has(v, x, y) {
-        let e = d[y];
-        if e < r {
-            return e;
-        }
-    }
-    r
-}
-
-// The least distance among the nodes of row x; UNREACHED where none has one.
-fn nearest(n: usize, v: &[u64; WORDS], d: &[u8; Listing::NODES], x: usize) -> u8
-    requires { ⌜ (n ≤ 128) × (x < n) ⌝ }
-    ensures { λ r. ⌜ Nearest n (now (v .entry)) (now (d .entry)) x r ⌝ }
-{
-    let mut r = UNREACHED;
-    for y in 0..n {
-        r = nearer(v, d, x, y, r);
-    }
-    r
 }
 
 // Whether x hops to c and c has a pair into s.
@@ -213,8 +187,7 @@ fn descend(
     }
 }
 
-// The least of the shortest courses of at least one pair from x to a node of t, into the front of out: hops by m, pairs by w.
-// Answers how many pairs it has, 0 where there is none. v and d are for the work.
+// The least of the shortest courses from x to a node of t, hops by m, pairs by w, into the front of out: how many pairs it has. v and d are for the work.
 pub fn chain(
     n: usize,
     m: &[u64; WORDS],
@@ -225,15 +198,12 @@ pub fn chain(
     d: &mut [u8; Listing::NODES],
     out: &mut [u8],
 ) -> usize
-    requires { ⌜ Sought n (now m) (now w) (now out) x ⌝ }
+    requires { ⌜ Sought n (now m) (now w) (now t) (now out) x ⌝ }
     ensures { λ k. ⌜ ShownCourse n (now (m .entry)) (now (w .entry)) (now (t .entry)) (now (out .entry)) (now (out .exit)) x k ⌝ }
 {
     reach::compose(n, m, w, v);
     distances(n, v, t, d);
-    let r = nearest(n, v, d, x);
-    if r == UNREACHED {
-        return 0;
-    }
-    descend(n, m, w, d, x, r + 1, out);
-    listing::wide(r) + 1
+    let r = d[x];
+    descend(n, m, w, d, x, r, out);
+    listing::wide(r)
 }

@@ -21,8 +21,8 @@ pub fn prepare(
     requires { ⌜ Asked question × Whole (now bytes) ⌝ }
     ensures { λ _. ⌜ Laid question (now (bytes .entry)) (now (p .exit)) (now (m .exit)) (now (c .exit)) (now (i .exit)) ⌝ }
 {
+    suspects::suspects(question, bytes, p, m, c, i);
     let mut v = [0u64; WORDS];
-    suspects::suspects(question, bytes, p, m, c, i, &mut v);
     suspects::exchanged_rows(bytes, p, &mut v, i);
 }
 

@@ -9,11 +9,10 @@ use lib.Dec.{T, eqb, ltb}
 use lib.ListN.{length}
 use Rattle.listing.specs.Node.{Listing}
 use Rattle.order.specs.Rows.{All, In, some, Different, Row}
-use Rattle.order.specs.Chains.{Ends, IsPair, Joined, Enough, Chain}
+use Rattle.order.specs.Chains.{Ends, IsPair, Joined, Chain}
 use Rattle.order.specs.Verdict.{Fails, Robust, Before, Smaller, Better, Shown, Verdict, robust, opened, Judged}
 use Rattle.listing.proofs.Bools.{T?}
-use Rattle.order.proofs.Lists.{all-in, in-all, in?, every, upto, in-upto}
-use Rattle.order.proofs.Laws.{ends-eq, enough-some}
+use Rattle.order.proofs.Lists.{all-in, in-all, every, upto, in-upto}
 use Rattle.order.proofs.Tests.{eqb-checked, ltb-checked, both-checked, one-checked, not-checked, every-checked}
 use Rattle.order.proofs.Rounds.{Round}
 use Rattle.order.proofs.Least.{shown-best, best-chain}
@@ -76,105 +75,79 @@ row-checked : (L : Listing) (p : Ends) (xs : List Ends) (z : Ends) → T (row? L
 row-checked L p [] z = (λ h. h, λ h. h)
 row-checked L p (x ∷ xs) z = both-checked (joined? L p x) _ (λ h. h, λ h. h) (row-checked L x xs z)
 
-abbrev pub enough? : List Ends → Bool
-enough? [] = false
-enough? (p ∷ ps) = true
-
-enough-checked : (ps : List Ends) → T (enough? ps) ↔ Enough ps
-enough-checked [] = (λ h. h, λ h. h)
-enough-checked (p ∷ ps) = (λ h. h, λ h. h)
-
 abbrev pub chainIs? : Listing → Ends → List Ends → Bool
-chainIs? L p rest = every (pair? L) (p ∷ rest) && (different? (p ∷ rest) && (enough? rest && row? L p rest p))
+chainIs? L p rest = every (pair? L) (p ∷ rest) && (different? (p ∷ rest) && row? L p rest p)
 
 -- the test of a chain passes exactly if it is one
 pub chain-is : (L : Listing) (p : Ends) (rest : List Ends) → T (chainIs? L p rest) ↔ Chain L p rest
 chain-is L p rest = (
-  λ t. let h = parts .0 t in record { pairs = h .0; different = h .1 .0; enough = h .1 .1 .0; closed = h .1 .1 .1 },
-  λ c. parts .1 (c .pairs, (c .different, (c .enough, c .closed))),
+  λ t. let h = parts .0 t in record { pairs = h .0; different = h .1 .0; closed = h .1 .1 },
+  λ c. parts .1 (c .pairs, (c .different, c .closed)),
 )
   where
-    parts : T (chainIs? L p rest) ↔ (All (IsPair L) (p ∷ rest) × (Different (p ∷ rest) × (Enough rest × Row (Joined L) p rest p)))
+    parts : T (chainIs? L p rest) ↔ (All (IsPair L) (p ∷ rest) × (Different (p ∷ rest) × Row (Joined L) p rest p))
     parts =
         both-checked (every (pair? L) (p ∷ rest)) _ (every-checked (pair? L) (IsPair L) (λ x. (pair-sound L x, pair-complete L x)) (p ∷ rest))
-        (both-checked (different? (p ∷ rest)) _ (different-checked (p ∷ rest)) (both-checked (enough? rest) _ (enough-checked rest) (row-checked L p rest p)))
+        (both-checked (different? (p ∷ rest)) _ (different-checked (p ∷ rest)) (row-checked L p rest p))
 
 -- ── The chain to show ───────────────────────────────────────────────────────
-abbrev pub worse? : Ends → List Ends → List Ends → Bool
-worse? p rest xs = some (same? p) xs || not (better? xs rest)
+abbrev pub worse? : List Ends → List Ends → Bool
+worse? rest xs = not (better? xs rest)
 
-abbrev Worse : Ends → List Ends → List Ends → Type 0
-Worse p rest xs = In p xs ⊎ (Better xs rest → ⊥)
+abbrev Worse : List Ends → List Ends → Type 0
+Worse rest xs = Better xs rest → ⊥
 
-worse-checked : (p : Ends) (rest xs : List Ends) → T (worse? p rest xs) ↔ Worse p rest xs
-worse-checked p rest xs = one-checked (some (same? p) xs) _ (in-checked p xs) (not-checked (better? xs rest) (better-checked xs rest))
+worse-checked : (rest xs : List Ends) → T (worse? rest xs) ↔ Worse rest xs
+worse-checked rest xs = not-checked (better? xs rest) (better-checked xs rest)
 
 abbrev allRows : Listing → Ends → ℕ → List (List Ends)
-allRows L p k = rows (pairs L) (joined? L) (suc k) p p
+allRows L p k = rows (pairs L) (joined? L) k p p
 
 abbrev pub best? : Listing → Ends → List Ends → ℕ → Bool
-best? L p rest k = every (worse? p rest) (allRows L p k)
+best? L p rest k = every (worse? rest) (allRows L p k)
 
 abbrev pub shown? : Listing → Ends → List Ends → Bool
-shown? L p rest = chainIs? L p rest && every (best? L p rest) (upto (length rest))
+shown? L p rest = chainIs? L p rest && every (best? L p rest) (upto (suc (length rest)))
 
 module _ (L : Listing) (p : Ends) (rest : List Ends) where
-  -- of the rows that are not longer, by the number of their entries, none is better, unless it comes back to p on the way
+  -- of the closed rows that are not longer, by the number of their entries, none is better
   abbrev NoneAt : ℕ → Type 0
-  NoneAt k = All (Worse p rest) (allRows L p k)
+  NoneAt k = All (Worse rest) (allRows L p k)
 
   abbrev NoneBetter : Type 0
-  NoneBetter = All NoneAt (upto (length rest))
+  NoneBetter = All NoneAt (upto (suc (length rest)))
 
   shown-parts : T (shown? L p rest) ↔ (Chain L p rest × NoneBetter)
   shown-parts =
       both-checked (chainIs? L p rest) _ (chain-is L p rest)
-      (every-checked (best? L p rest) NoneAt (λ k. every-checked (worse? p rest) (Worse p rest) (worse-checked p rest) (allRows L p k))
-      (upto (length rest)))
+      (every-checked (best? L p rest) NoneAt (λ k. every-checked (worse? rest) (Worse rest) (worse-checked rest) (allRows L p k))
+      (upto (suc (length rest))))
 
   best-at : NoneBetter → (other : List Ends) → Chain L p other → Better other rest → ⊥
-  best-at h [] c b = c .enough
-  best-at h (x ∷ xs) c b = go (all-in (Worse p rest) (allRows L p (length xs)) in-turn (x ∷ xs) listed)
+  best-at h other c b = all-in (Worse rest) (allRows L p (length other)) in-turn other listed b
     where
-      in-turn : NoneAt (length xs)
+      in-turn : NoneAt (length other)
       in-turn =
-          all-in NoneAt (upto (length rest)) h (length xs)
-          (in-upto (length rest) (length xs) (better-no-longer (x ∷ xs) rest b))
+          all-in NoneAt (upto (suc (length rest))) h (length other)
+          (in-upto (suc (length rest)) (length other) (omega (arith, better-no-longer other rest b)))
 
-      listed : In (x ∷ xs) (allRows L p (length xs))
+      listed : In other (allRows L p (length other))
       listed =
-          rows-complete (pairs L) (joined? L) (x ∷ xs) p p (c .closed)
-          (in-all (λ y. In y (pairs L)) (x ∷ xs) (λ y i. pair-listed L y (all-in (IsPair L) (x ∷ xs) (c .pairs .1) y i)))
-
-      go : Worse p rest (x ∷ xs) → ⊥
-      go (inl i) = c .different .0 i
-      go (inr n) = n b
+          rows-complete (pairs L) (joined? L) other p p (c .closed)
+          (in-all (λ y. In y (pairs L)) other (λ y i. pair-listed L y (all-in (IsPair L) other (c .pairs .1) y i)))
 
   -- no round is better than the shown chain
-  not-better : Shown L p rest → (xs : List Ends) → Round L p xs → Better xs rest → ⊥
+  not-better : Shown L p rest → (xs : List Ends) → Round L p xs → Worse rest xs
   not-better s xs h (inl m) = shown-best L p rest s .best xs h m
   not-better s xs h (inr m) =
       let b = shown-best L p rest s in
       s .best xs (best-chain L p xs (record { round = h; best = λ other k l. b .best other k (omega (arith, m .0)) })) (inr m)
 
-  some-entry : (k : ℕ) (xs : List Ends) → length xs ≡ suc k → Enough xs
-  some-entry k [] e = absurd (omega arith)
-  some-entry k (x ∷ xs) e = enough-some (x ∷ xs) tt
-
-  worse : Shown L p rest → (k : ℕ) (xs : List Ends) → Rowed (pairs L) (joined? L) (suc k) p p xs → Worse p rest xs
-  worse s k xs h = go (in? ends-eq p xs)
-    where
-      round : (In p xs → ⊥) → Round L p xs
-      round n = record {
-        pairs = (s .chain .pairs .0, in-all (IsPair L) xs (λ x i. listed-pair L x (all-in (λ y. In y (pairs L)) xs (h .1) x i)));
-        fresh = n;
-        enough = some-entry k xs (h .2);
-        closed = h .0;
-      }
-
-      go : Dec (In p xs) → Worse p rest xs
-      go (yes i) = inl i
-      go (no n) = inr (not-better s xs (round n))
+  worse : Shown L p rest → (k : ℕ) (xs : List Ends) → Rowed (pairs L) (joined? L) k p p xs → Worse rest xs
+  worse s k xs h = not-better s xs (record {
+    pairs = (s .chain .pairs .0, in-all (IsPair L) xs (λ x i. listed-pair L x (all-in (λ y. In y (pairs L)) xs (h .1) x i)));
+    closed = h .0;
+  })
 
   -- the test of the chain to show passes exactly if it is the one
   shown-checked : T (shown? L p rest) ↔ Shown L p rest
@@ -182,8 +155,8 @@ module _ (L : Listing) (p : Ends) (rest : List Ends) where
     λ t. let h = shown-parts .0 t in record { chain = h .0; best = best-at (h .1) },
     λ s. shown-parts .1 (
       s .chain,
-      in-all NoneAt (upto (length rest)) (λ k i.
-          in-all (Worse p rest) (allRows L p k) (λ xs j. worse s k xs (rows-sound (pairs L) (joined? L) (suc k) p p xs j))),
+      in-all NoneAt (upto (suc (length rest))) (λ k i.
+          in-all (Worse rest) (allRows L p k) (λ xs j. worse s k xs (rows-sound (pairs L) (joined? L) k p p xs j))),
     ),
   )
 

@@ -1,5 +1,5 @@
 -- Failing pairs are decided by computation: the test passes exactly if the pair fails.
-use mathlib.Core.Path.{_≡_, refl, sym, subst}
+use mathlib.Core.Path.{_≡_, refl, subst}
 use mathlib.Core.Logic.{_↔_, inl, inr}
 use mathlib.Core.List.{List, [], _∷_, _++_}
 use mathlib.Core.Bool.{Bool, true, false, not, _&&_, _||_}
@@ -19,7 +19,7 @@ use Rattle.order.proofs.Lists.{keep, in-keep, keep-in, some-in, in-some
 use Rattle.order.proofs.Tests.{eqb-checked, ltb-checked, both-checked, one-checked}
 use Rattle.order.proofs.Laws.{ends-eq, access-in, walk-in}
 use Rattle.order.proofs.Rounds.{shorten}
-use Rattle.order.proofs.Search.{hits, hits₁, Good, hits-sound, hits₁-sound, hits-complete, hits₁-complete}
+use Rattle.order.proofs.Search.{hits, Good, hits-sound, hits-complete}
 
 -- ── All pairs of nodes ──────────────────────────────────────────────────────
 
@@ -79,7 +79,7 @@ walk-complete L ok a b xs w g =
     hits-complete (upto (length L)) ok (succ? L) ℕ-discrete a b xs (row-map (Succ L) (λ x y. T (succ? L x y)) (λ x y. succ-checked L x y .1) a xs b w)
     (in-all (Good (upto (length L)) ok (succ? L)) xs (λ x i. (in-upto (length L) x (walk-in L a xs b w x (inr i)), all-in (λ x. T (ok x)) xs g x i)))
 
-abbrev pub any? : ℕ → Bool
+abbrev pub any? : {A : Type 0} → A → Bool
 any? x = true
 
 any-all : (xs : List ℕ) → All (λ x. T (any? x)) xs
@@ -168,37 +168,24 @@ same-sound p x t =
 pub same-refl : (p : Ends) → T (same? p p)
 same-refl p = both (eqb (p .0) (p .0)) (eqb (p .1) (p .1)) (eqb-refl (p .0)) (eqb-refl (p .1))
 
-abbrev pub other? : Ends → Ends → Bool
-other? p x = not (same? p x)
-
 abbrev pub joined? : Listing → Ends → Ends → Bool
 joined? L p x = meets L (p .1) (x .0)
 
--- a closed row through p and another pair, that does not come back to p on the way
+-- a closed row through p
 abbrev pub chain? : Listing → Ends → Bool
-chain? L p = hits₁ (pairs L) (other? p) (joined? L) (length (pairs L)) p p
+chain? L p = hits (pairs L) any? (joined? L) (length (pairs L)) p p
 
 chain-sound : (L : Listing) (p : Ends) → IsPair L p → T (chain? L p) → (rest : List Ends) × Chain L p rest
 chain-sound L p h t =
-    let f = hits₁-sound (pairs L) (other? p) (joined? L) (length (pairs L)) p p t in
-    let c =
-    shorten L p (f .0 ∷ f .1)
-    (h, in-all (IsPair L) (f .0 ∷ f .1) (λ x i. listed-pair L x (all-in (Good (pairs L) (other? p) (joined? L)) (f .0 ∷ f .1) (f .3) x i .0)))
-    (f .2)
-    (λ e. T-not (same? p (f .0)) (f .3 .0 .1) (subst (λ (v : Ends). T (same? p v)) (sym (e .0)) (same-refl p))) in
+    let f = hits-sound (pairs L) any? (joined? L) (length (pairs L)) p p t in
+    let pairs-of = in-all (IsPair L) (f .0) (λ x i. listed-pair L x (all-in (Good (pairs L) any? (joined? L)) (f .0) (f .2) x i .0)) in
+    let c = shorten L p (f .0) (record { pairs = (h, pairs-of); closed = f .1 }) in
     (c .0, c .1)
 
 chain-complete : (L : Listing) (p : Ends) (rest : List Ends) → Chain L p rest → T (chain? L p)
-chain-complete L p [] c = absurd (c .enough)
-chain-complete L p (y ∷ ys) c =
-    hits₁-complete (pairs L) (other? p) (joined? L) ends-eq p p y ys (c .closed)
-    (in-all (Good (pairs L) (other? p) (joined? L)) (y ∷ ys) good)
-  where
-    other : (x : Ends) → In x (y ∷ ys) → T (same? p x) → ⊥
-    other x i t = c .different .0 (subst (λ (v : Ends). In v (y ∷ ys)) (sym (same-sound p x t)) i)
-
-    good : (x : Ends) → In x (y ∷ ys) → Good (pairs L) (other? p) (joined? L) x
-    good x i = (pair-listed L x (all-in (IsPair L) (y ∷ ys) (c .pairs .1) x i), not-T (same? p x) (other x i))
+chain-complete L p rest c =
+    hits-complete (pairs L) any? (joined? L) ends-eq p p rest (c .closed)
+    (in-all (Good (pairs L) any? (joined? L)) rest (λ x i. (pair-listed L x (all-in (IsPair L) rest (c .pairs .1) x i), tt)))
 
 -- ── Failing pairs ───────────────────────────────────────────────────────────
 abbrev pub free? : ℕ → Listing → ℕ → ℕ → ℕ → Bool

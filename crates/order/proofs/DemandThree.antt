@@ -1,7 +1,7 @@
 -- The third demand: a listing is robust exactly if each step of each closed chain of steps is in order or free of need.
-use mathlib.Core.Path.{_≡_, refl, sym, _∙_}
+use mathlib.Core.Path.{refl}
 use mathlib.Core.Logic.{_↔_, _⊎_, inl, inr}
-use mathlib.Core.List.{List, [], _∷_, map}
+use mathlib.Core.List.{List, [], _∷_, _++_, map}
 use Prim.Native.Nat.{ℕ}
 use Rattle.listing.specs.Node.{Listing}
 use Rattle.order.specs.Rows.{All, In, Some, Row}
@@ -11,9 +11,8 @@ use Rattle.order.specs.Need.{question, bars, Barrier, Unbarred}
 use Rattle.order.specs.Verdict.{Robust}
 use Rattle.order.specs.Steps.{Step, ends, Hop, Ring, InOrder, Free, Ordered}
 use Rattle.listing.proofs.Bools.{T?}
-use Rattle.order.proofs.Lists.{all-in, in-all}
-use Rattle.order.proofs.Mapped.{in-mapped}
-use Rattle.order.proofs.Shorten.{Turned, turn}
+use Rattle.order.proofs.Lists.{all-in, in-all, row-join}
+use Rattle.order.proofs.Shorten.{turn}
 use Rattle.order.proofs.Rounds.{shorten}
 
 -- a row of steps is a row of their ends
@@ -45,17 +44,12 @@ barred? q L a b (x ∷ xs) = go (T? (bars (question q) (kindAt L a) (kindAt L b)
 -- the pair of a step of a closed chain of steps lies on a chain
 pub on-chain : (L : Listing) (s : Step L) (ss : List (Step L)) → Ring L s ss → (t : Step L) → In t (s ∷ ss) → (rest : List Ends) × Chain L (ends t) rest
 on-chain L s ss g t i =
-    let c = shorten L (ends t) (map ends (u .rest)) (step-pair L t, steps-pairs L (u .rest)) (ends-row L t (u .rest) t (u .row)) (λ h. g .several (same h)) in
+    let u = turn (Hop L) s ss t (g .closed) i in
+    let c = shorten L (ends t) (map ends (u .0)) (record {
+      pairs = (step-pair L t, steps-pairs L (u .0));
+      closed = ends-row L t (u .0) t (u .1);
+    }) in
     (c .0, c .1)
-  where
-    u : Turned (Hop L) s ss t
-    u = turn (Hop L) s ss t (g .closed) i
-
-    is-t : All (λ y. y ≡ ends t) (map ends (u .rest)) → (x : Step L) → In x (s ∷ ss) → ends x ≡ ends t
-    is-t h x j = all-in (λ y. y ≡ ends t) (map ends (t ∷ u .rest)) (refl, h) (ends x) (in-mapped ends (t ∷ u .rest) x (u .all x j))
-
-    same : All (λ y. y ≡ ends t) (map ends (u .rest)) → All (λ x. ends x ≡ ends s) ss
-    same h = in-all (λ x. ends x ≡ ends s) ss (λ x j. is-t h x (inr j) ∙ sym (is-t h s (inl refl)))
 
 pub robust-ordered : (q : ℕ) (L : Listing) → Robust q L → Ordered q L
 robust-ordered q L h s ss g = in-all (λ t. InOrder q L t ⊎ Free q L t) (s ∷ ss) each
@@ -84,7 +78,7 @@ pair-steps L (p ∷ ps) h = pair-step L p (h .0) ∷ pair-steps L ps (h .1)
 
 pub ordered-robust : (q : ℕ) (L : Listing) → Ordered q L → Robust q L
 unfolding pair-step pair-steps
-ordered-robust q L h a b f = go (h s ss ring .0)
+ordered-robust q L h a b f = go (h s (ss ++ (s ∷ ss)) ring .0)
   where
     c : Chain L (a, b) (f .chain .0)
     c = f .chain .1
@@ -99,19 +93,15 @@ ordered-robust q L h a b f = go (h s ss ring .0)
     closed t [] k r = r
     closed t (p ∷ ps) k r = (r .0, closed (pair-step L p (k .0)) ps (k .1) (r .1))
 
-    two : (ps : List Ends) (k : All (IsPair L) ps) → Some ps → Some (pair-steps L ps k)
-    two [] k m = m
-    two (p ∷ ps) k m = tt
+    two : (ts : List (Step L)) → Some (ts ++ (s ∷ ss))
+    two [] = tt
+    two (t ∷ ts) = tt
 
-    first-differs : (ps : List Ends) (k : All (IsPair L) ps) → Some ps → (In (a, b) ps → ⊥) → All (λ t. ends t ≡ (a, b)) (pair-steps L ps k) → ⊥
-    first-differs [] k m n r = m
-    first-differs (p ∷ ps) k m n r = n (inl (sym (r .0)))
-
-    several : All (λ t. ends t ≡ ends s) ss → ⊥
-    several = first-differs (f .chain .0) (c .pairs .1) (c .enough) (c .different .0)
-
-    ring : Ring L s ss
-    ring = record { two = two (f .chain .0) (c .pairs .1) (c .enough); closed = closed s (f .chain .0) (c .pairs .1) (c .closed); several = several }
+    -- the chain, gone round twice: a chain of one pair is a closed chain of two steps too
+    ring : Ring L s (ss ++ (s ∷ ss))
+    ring =
+        let once = closed s (f .chain .0) (c .pairs .1) (c .closed) in
+        record { two = two ss; closed = row-join (Hop L) s ss s ss s once once }
 
     go : InOrder q L s ⊎ Free q L s → ⊥
     go (inl (inl m)) = f .apart m

@@ -5,7 +5,7 @@ use mathlib.Core.List.{List, [], _∷_, _++_, map}
 use Prim.Native.Nat.{_+_, _<_}
 use native.Mathlib.Omega.{arith}
 use lib.ListN.{length, length-append}
-use Rattle.order.specs.Rows.{In, Different, Some, Row}
+use Rattle.order.specs.Rows.{In, Different, Row}
 use Rattle.order.proofs.Lists.{in-right, cut, in?, row-after}
 use Rattle.order.proofs.Mapped.{mapped-in}
 
@@ -19,32 +19,35 @@ module _ {A K : Type 0} (eqK : Discrete K) (key : A → K) where
       let c = cut xs (m .0) (m .1) in
       (c .0, m .0, c .1, c .2, m .2)
 
-  keys-right : (us vs : List A) → Different (map key (us ++ vs)) → Different (map key vs)
-  keys-right [] vs d = d
-  keys-right (u ∷ us) vs d = keys-right us vs (d .1)
+  -- the entries of xs have different keys, and none has k
+  abbrev Apart : K → List A → Type 0
+  Apart k xs = Different (k ∷ map key xs)
+
+  apart-right : (k : K) (us vs : List A) → Apart k (us ++ vs) → Apart k vs
+  apart-right k [] vs d = d
+  apart-right k (u ∷ us) vs d = apart-right k us vs (λ i. d .0 (inr i), d .1 .1)
 
   module _ (r : A → A → Type 0) (by-key : (a x y : A) → r a x → key x ≡ key y → r a y) where
-    -- a row whose entries have different keys
+    -- a row whose entries have different keys, the one that it ends at among them
     pub record Keyed (a : A) (xs : List A) (z : A) : Type 0 where
       pub inside : List A
       pub row : Row r a inside z
-      pub different : Different (map key inside)
+      pub different : Different (map key (z ∷ inside))
       pub among : (x : A) → In x inside → In x xs
-      pub some : Some xs → Some inside
       pub short : (length inside < length xs) ⊎ (inside ≡ xs)
 
     -- A ROW HAS A ROW WITH DIFFERENT KEYS IN IT, SHORTER OR THE SAME
     pub keyed : (a : A) (xs : List A) (z : A) → Row r a xs z → Keyed a xs z
-    keyed a [] z h = record { inside = []; row = h; different = tt; among = λ x i. i; some = λ s. s; short = inr refl }
-    keyed a (y ∷ ys) z h = go (keyed y ys z (h .1))
+    keyed a [] z h = record { inside = []; row = h; different = (λ i. i, tt); among = λ x i. i; short = inr refl }
+    keyed a (y ∷ ys) z h = go (eqK (key y) (key z)) (keyed y ys z (h .1))
       where
+        -- y has a key that comes again: what lies between is left out
         back : (s : Keyed y ys z) → KeyCut (s .inside) (key y) → Keyed a (y ∷ ys) z
         back s c = record {
           inside = c .1 ∷ c .2;
           row = (by-key a y (c .1) (h .0) (c .4), row-after r y (c .0) (c .1) (c .2) z (subst (λ (l : List A). Row r y l z) (c .3) (s .row)));
-          different = keys-right (c .0) (c .1 ∷ c .2) (subst (λ (l : List A). Different (map key l)) (c .3) (s .different));
+          different = apart-right (key z) (c .0) (c .1 ∷ c .2) (subst (Apart (key z)) (c .3) (s .different));
           among = λ x i. inr (s .among x (subst (In x) (sym (c .3)) (in-right (c .0) (c .1 ∷ c .2) x i)));
-          some = λ t. tt;
           short = inl (less (s .short));
         }
           where
@@ -52,14 +55,13 @@ module _ {A K : Type 0} (eqK : Discrete K) (key : A → K) where
             less (inl m) = omega (arith, m, simp length-append at (ap length (c .3)))
             less (inr e) = omega (arith, ap length e, simp length-append at (ap length (c .3)))
 
-        pick : (s : Keyed y ys z) → Dec (In (key y) (map key (s .inside))) → Keyed a (y ∷ ys) z
-        pick s (yes i) = back s (key-cut (s .inside) (key y) i)
-        pick s (no n) = record {
+        pick : (key y ≡ key z → ⊥) → (s : Keyed y ys z) → Dec (In (key y) (map key (s .inside))) → Keyed a (y ∷ ys) z
+        pick m s (yes i) = back s (key-cut (s .inside) (key y) i)
+        pick m s (no n) = record {
           inside = y ∷ s .inside;
           row = (h .0, s .row);
-          different = (n, s .different);
+          different = (elim [ inl e ↦ m (sym e) | inr i ↦ s .different .0 i ], (n, s .different .1));
           among = λ x. elim [ inl e ↦ inl e | inr i ↦ inr (s .among x i) ];
-          some = λ t. tt;
           short = keep (s .short);
         }
           where
@@ -67,5 +69,12 @@ module _ {A K : Type 0} (eqK : Discrete K) (key : A → K) where
             keep (inl m) = inl (omega arith)
             keep (inr e) = inr (ap (λ (v : List A). y ∷ v) e)
 
-        go : Keyed y ys z → Keyed a (y ∷ ys) z
-        go s = pick s (in? eqK (key y) (map key (s .inside)))
+        go : Dec (key y ≡ key z) → Keyed y ys z → Keyed a (y ∷ ys) z
+        go (yes e) s = record {
+          inside = [];
+          row = by-key a y z (h .0) e;
+          different = (λ i. i, tt);
+          among = λ x i. absurd i;
+          short = inl (omega arith);
+        }
+        go (no m) s = pick m s (in? eqK (key y) (map key (s .inside)))

@@ -10,21 +10,13 @@ use lib.Dec.{T}
 use lib.ListN.{length, List·getD-eq-default}
 use Rattle.listing.specs.Kinds.{PLAIN, FENCE}
 use Rattle.listing.specs.Node.{Node, blank, Listing, node}
-use Rattle.order.specs.Rows.{In, Some}
+use Rattle.order.specs.Rows.{In}
 use Rattle.order.specs.Walks.{isAccess, Access, Walk}
-use Rattle.order.specs.Chains.{Ends, Enough}
+use Rattle.order.specs.Chains.{Ends}
 use Rattle.order.specs.Need.{Question, scOnX86, scOnArmv7, x86OnArmv7, armv8OnArmv7, scOnArmv8, x86OnArmv8, bars}
 
 pub ends-eq : Discrete Ends
 ends-eq = ×-discrete ℕ-discrete ℕ-discrete
-
--- a pair that follows is enough
-pub enough-some : (xs : List Ends) → Some xs → Enough xs
-enough-some xs h = h
-
--- what keeps an entry keeps enough
-pub enough-kept : (xs ys : List Ends) → (Some xs → Some ys) → Enough xs → Enough ys
-enough-kept xs ys f h = f h
 
 blank-past : (L : Listing) (a : ℕ) → length L ≤ a → node L a ≡ blank
 blank-past L a h = List·getD-eq-default L blank h

@@ -21,6 +21,10 @@ module _ {A : Type 0} where
   in-all p [] h = tt
   in-all p (y ∷ ys) h = (h y (inl refl), in-all p ys (λ x i. h x (inr i)))
 
+  pub all-append : (p : A → Type 0) (xs ys : List A) → All p xs → All p ys → All p (xs ++ ys)
+  all-append p [] ys h k = k
+  all-append p (x ∷ xs) ys h k = (h .0, all-append p xs ys (h .1) k)
+
   pub in-left : (xs ys : List A) (x : A) → In x xs → In x (xs ++ ys)
   in-left [] ys x i = absurd i
   in-left (y ∷ xs) ys x (inl e) = inl e

@@ -2,14 +2,10 @@
 use mathlib.Core.Path.{_≡_, refl, sym, ap, ap₂, subst}
 use mathlib.Core.Logic.{_↔_, inl, inr}
 use mathlib.Core.List.{List, [], _∷_, map}
-use Rattle.order.specs.Rows.{All, In, Different, Some, Row}
+use Rattle.order.specs.Rows.{All, In, Different, Row}
 use Rattle.order.proofs.Lists.{all-in}
 
 module _ {A B : Type 0} (g : A → B) where
-  pub some-mapped : (xs : List A) → Some xs ↔ Some (map g xs)
-  some-mapped [] = (λ h. h, λ h. h)
-  some-mapped (x ∷ xs) = (λ h. h, λ h. h)
-
   pub all-mapped : (p : A → Type 0) (q : B → Type 0) → ((x : A) → p x → q (g x)) → (xs : List A) → All p xs → All q (map g xs)
   all-mapped p q f [] h = tt
   all-mapped p q f (x ∷ xs) h = (f x (h .0), all-mapped p q f xs (h .1))

@@ -9,9 +9,9 @@ use Rattle.order.specs.Rows.{All}
 use Rattle.order.specs.Walks.{kindAt, locAt, countsRmw, isWriter, isAccess, Access, Walk}
 use Rattle.order.specs.Chains.{overlap, written, MayMeet, surely, SurelyMeet, Ends, IsPair, Joined, Chain}
 use Rattle.order.specs.Need.{question, Entry, need, leave, leaveUnlessRmw, entry, RmwInside, Says, Needs, bars, Unbarred}
-use Rattle.order.proofs.Laws.{enough-kept, bars-fence, bars-plain}
+use Rattle.order.proofs.Laws.{bars-fence, bars-plain}
 use Rattle.order.proofs.Meeting.{writer-access, written-checked, meets-written}
-use Rattle.order.proofs.Mapped.{some-mapped, all-mapped, all-from, mapped-different, different-mapped, row-mapped}
+use Rattle.order.proofs.Mapped.{all-mapped, all-from, mapped-different, different-mapped, row-mapped}
 use Rattle.order.proofs.Inside.{Inside, inside-some, inside-no}
 
 -- f renames the nodes; a walk of L from a with xs inside is open if `Open a xs`, else M has a fence more inside
@@ -124,18 +124,15 @@ module _ {f : ℕ → ℕ} {Open : ℕ → List ℕ → Type 0} {L M : Listing} 
 
   chain-same : (p : Ends) (rest : List Ends) → All (IsPair L) (p ∷ rest) → Chain L p rest ↔ Chain M (rename f p) (map (rename f) rest)
   chain-same p rest h =
-      let some = some-mapped (rename f) rest in
       let joined = row-mapped (rename f) (IsPair L) (Joined L) (Joined M) joined-same p rest p (h .0) (h .1) (h .0) in (
         λ c. record {
           pairs = all-mapped (rename f) (IsPair L) (IsPair M) pair-there (p ∷ rest) h;
           different = different-mapped (rename f) (IsPair L) ends-apart (p ∷ rest) h (c .different);
-          enough = enough-kept rest (map (rename f) rest) (some .0) (c .enough);
           closed = joined .0 (c .closed);
         },
         λ c. record {
           pairs = h;
           different = mapped-different (rename f) (p ∷ rest) (c .different);
-          enough = enough-kept (map (rename f) rest) rest (some .1) (c .enough);
           closed = joined .1 (c .closed);
         },
       )

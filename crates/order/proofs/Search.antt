@@ -2,7 +2,7 @@
 use mathlib.Core.Path.{_≡_, refl, sym, ap, subst}
 use mathlib.Core.Logic.{_⊎_, inl, inr}
 use mathlib.Core.List.{List, [], _∷_, _++_, map}
-use mathlib.Core.Bool.{Bool, false, _&&_, _||_}
+use mathlib.Core.Bool.{Bool, _&&_, _||_}
 use Prim.Native.Nat.{ℕ, zero, suc, _≤_}
 use native.Mathlib.Omega.{arith}
 use native.Mathlib.Decide.{ℕ-discrete}
@@ -29,13 +29,10 @@ module _ {A : Type 0} (univ : List A) (ok : A → Bool) (r : A → A → Bool) w
   hit zero a z = r a z
   hit (suc k) a z = some (r a) (back k z)
 
-  -- a row with at most n entries inside; with 1 to n
-  abbrev pub hits₁ : ℕ → A → A → Bool
-  hits₁ zero a z = false
-  hits₁ (suc n) a z = hit (suc n) a z || hits₁ n a z
-
+  -- a row with at most n entries inside
   abbrev pub hits : ℕ → A → A → Bool
-  hits n a z = r a z || hits₁ n a z
+  hits zero a z = hit zero a z
+  hits (suc n) a z = hits n a z || hit (suc n) a z
 
   abbrev R : A → A → Type 0
   R a b = T (r a b)
@@ -45,10 +42,6 @@ module _ {A : Type 0} (univ : List A) (ok : A → Bool) (r : A → A → Bool) w
 
   abbrev pub Found : A → A → Type 0
   Found a z = (xs : List A) × Row R a xs z × All Good xs
-
-  -- a row with at least one entry inside
-  abbrev pub Found₁ : A → A → Type 0
-  Found₁ a z = (y : A) × (ys : List A) × Row R a (y ∷ ys) z × All Good (y ∷ ys)
 
   back-sound : (k : ℕ) (x z : A) → In x (back k z) → Good x × Found x z
   back-sound zero x z i =
@@ -71,37 +64,31 @@ module _ {A : Type 0} (univ : List A) (ok : A → Bool) (r : A → A → Bool) w
       in-keep (λ x. ok x && some (r x) (back (length ys) z)) univ x (g .0 .0)
       (both (ok x) (some (r x) (back (length ys) z)) (g .0 .1) (in-some (r x) (back (length ys) z) y (back-complete ys y z (h .1) (g .1)) (h .0)))
 
-  pub hits₁-sound : (n : ℕ) (a z : A) → T (hits₁ n a z) → Found₁ a z
-  hits₁-sound zero a z t = absurd t
-  hits₁-sound (suc n) a z t = go (one→ (hit (suc n) a z) (hits₁ n a z) t) (λ s. hits₁-sound n a z s)
+  pub hits-sound : (n : ℕ) (a z : A) → T (hits n a z) → Found a z
+  hits-sound zero a z t = ([], t, tt)
+  hits-sound (suc n) a z t = go (one→ (hits n a z) (hit (suc n) a z) t) (λ s. hits-sound n a z s)
     where
-      go : T (hit (suc n) a z) ⊎ T (hits₁ n a z) → (T (hits₁ n a z) → Found₁ a z) → Found₁ a z
-      go (inl s) f =
+      go : T (hits n a z) ⊎ T (hit (suc n) a z) → (T (hits n a z) → Found a z) → Found a z
+      go (inl s) f = f s
+      go (inr s) f =
           let g = some-in (r a) (back n z) s in
           let b = back-sound n (g .0) z (g .1) in
-          (g .0, b .1 .0, (g .2, b .1 .1), (b .0, b .1 .2))
-      go (inr s) f = f s
+          (g .0 ∷ b .1 .0, (g .2, b .1 .1), (b .0, b .1 .2))
 
-  pub hits-sound : (n : ℕ) (a z : A) → T (hits n a z) → Found a z
-  hits-sound n a z t = go (one→ (r a z) (hits₁ n a z) t)
+  hits-at : (n k : ℕ) (a z : A) → k ≤ n → T (hit k a z) → T (hits n a z)
+  hits-at zero k a z h t = let e : k ≡ 0 = omega arith in subst (λ (m : ℕ). T (hit m a z)) e t
+  hits-at (suc n) k a z h t = go (ℕ-discrete k (suc n)) (λ l. hits-at n k a z l t)
     where
-      go : T (r a z) ⊎ T (hits₁ n a z) → Found a z
-      go (inl s) = ([], s, tt)
-      go (inr s) = let f = hits₁-sound n a z s in (f .0 ∷ f .1, f .2, f .3)
-
-  hits-at : (n k : ℕ) (a z : A) → suc k ≤ n → T (hit (suc k) a z) → T (hits₁ n a z)
-  hits-at zero k a z h t = absurd (omega arith)
-  hits-at (suc n) k a z h t = go (ℕ-discrete k n) (λ l. hits-at n k a z l t)
-    where
-      go : Dec (k ≡ n) → (suc k ≤ n → T (hits₁ n a z)) → T (hits₁ (suc n) a z)
-      go (yes e) f = one (hit (suc n) a z) (hits₁ n a z) (inl (subst (λ (m : ℕ). T (hit (suc m) a z)) e t))
-      go (no m) f = one (hit (suc n) a z) (hits₁ n a z) (inr (f (omega arith)))
+      go : Dec (k ≡ suc n) → (k ≤ n → T (hits n a z)) → T (hits (suc n) a z)
+      go (yes e) f = one (hits n a z) (hit (suc n) a z) (inr (subst (λ (m : ℕ). T (hit m a z)) e t))
+      go (no m) f = one (hits n a z) (hit (suc n) a z) (inl (f (omega arith)))
 
   module _ (eq : Discrete A) where
     -- of every row through good entries the search finds one
-    pub hits₁-complete : (a z y : A) (ys : List A) → Row R a (y ∷ ys) z → All Good (y ∷ ys) → T (hits₁ (length univ) a z)
-    hits₁-complete a z y ys h g =
-        hits-at (length univ) (length (s .inside)) a z
+    pub hits-complete : (a z : A) (xs : List A) → Row R a xs z → All Good xs → T (hits (length univ) a z)
+    hits-complete a z [] h g = hits-at (length univ) 0 a z (omega arith) h
+    hits-complete a z (y ∷ ys) h g =
+        hits-at (length univ) (suc (length (s .inside))) a z
         (pigeons (y ∷ s .inside) univ (s .different) (λ x i. all-in Good (y ∷ s .inside) k x i .0))
         (in-some (r a) (back (length (s .inside)) z) y (back-complete (s .inside) y z (s .row) k) (h .0))
       where
@@ -110,10 +97,6 @@ module _ {A : Type 0} (univ : List A) (ok : A → Bool) (r : A → A → Bool) w
 
         k : All Good (y ∷ s .inside)
         k = (g .0, in-all Good (s .inside) (λ x i. all-in Good ys (g .1) x (s .among x i)))
-
-    pub hits-complete : (a z : A) (xs : List A) → Row R a xs z → All Good xs → T (hits (length univ) a z)
-    hits-complete a z [] h g = one (r a z) (hits₁ (length univ) a z) (inl h)
-    hits-complete a z (y ∷ ys) h g = one (r a z) (hits₁ (length univ) a z) (inr (hits₁-complete a z y ys h g))
 
 module _ {A : Type 0} where
   abbrev pub flat : (A → List (List A)) → List A → List (List A)

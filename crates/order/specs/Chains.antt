@@ -4,7 +4,7 @@ use mathlib.Core.Bool.{Bool, not, _&&_, _||_}
 use Prim.Native.Nat.{ℕ}
 use lib.Dec.{T, eqb, leb}
 use Rattle.listing.specs.Node.{Listing}
-use Rattle.order.specs.Rows.{All, Different, some, Some, Row}
+use Rattle.order.specs.Rows.{All, Different, some, Row}
 use Rattle.order.specs.Walks.{kindAt, locAt, countsRead, isWriter, Pair}
 
 -- "Location 0 on an access: unknown, may be any cell"
@@ -48,18 +48,13 @@ Ends = ℕ × ℕ
 abbrev pub IsPair : Listing → Ends → Type 0
 IsPair L p = Pair L (p .0) (p .1)
 
--- "A pair (a, b) is joined to another pair (c, d) if b and c may meet"
+-- "A pair (a, b) is joined to a pair (c, d), itself or another, if b and c may meet"
 abbrev pub Joined : Listing → Ends → Ends → Type 0
 Joined L p q = MayMeet L (p .1) (q .0)
 
--- how many pairs make a chain: "at least two", so that some pair follows the first
-abbrev pub Enough : {A : Type 0} → List A → Type 0
-Enough rest = Some rest
-
--- "A chain through a pair is a list of pairs, all different, at least two, starting with it, each joined to the next and the
--- last to the first": the list is `p ∷ rest`
+-- "A chain through a pair is a list of pairs, all different, at least one, starting with it, each joined to the next and the
+-- last to the first": the list is `p ∷ rest`. "A pair joined to itself is a chain of one pair": `rest` is empty
 pub record Chain (L : Listing) (p : Ends) (rest : List Ends) : Type 0 where
   pub pairs : All (IsPair L) (p ∷ rest)
   pub different : Different (p ∷ rest)
-  pub enough : Enough rest
   pub closed : Row (Joined L) p rest p

@@ -1,5 +1,4 @@
 -- The third demand: closed chains of steps, over walks and the need-for-order table.
-use mathlib.Core.Path.{_≡_}
 use mathlib.Core.Logic.{_⊎_}
 use mathlib.Core.List.{List, _∷_}
 use Prim.Native.Nat.{ℕ}
@@ -25,11 +24,10 @@ ends s = (s .from, s .to)
 abbrev pub Hop : (L : Listing) → Step L → Step L → Type 0
 Hop L s t = Joined L (ends s) (ends t)
 
--- "A closed chain of steps is a list of at least two, repeats allowed, not all of the same pair of nodes": the list is `s ∷ rest`
+-- "A closed chain of steps is a list of at least two, repeats allowed": the list is `s ∷ rest`
 pub record Ring (L : Listing) (s : Step L) (rest : List (Step L)) : Type 0 where
   pub two : Some rest
   pub closed : Row (Hop L) s rest s
-  pub several : All (λ t. ends t ≡ ends s) rest → ⊥
 
 -- "A step is in order if its ends surely meet or a barrier is inside the walk taken"
 abbrev pub InOrder : ℕ → (L : Listing) → Step L → Type 0

@@ -4,3 +4,4 @@ pub mod Loading
 pub mod Sweeps
 pub mod Steps
 pub mod Thinned
+pub mod Staying

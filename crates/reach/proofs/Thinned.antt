@@ -6,7 +6,7 @@ use Prim.Native.Nat.{ℕ, _+_, _≤_, _<_}
 use native.Mathlib.Omega.{arith}
 use borrow.Author.Count.{below-more}
 use Rattle.rows.specs.Inner.Rows.{Has, Holds, Low}
-use Rattle.rows.specs.Inner.Touched.{Removed, Poured, Sifted, Emptied}
+use Rattle.rows.specs.Inner.Touched.{Poured, Sifted, Emptied}
 use Rattle.rows.specs.Inner.Growing.{RowGrown, RowsDone}
 use Rattle.rows.specs.Inner.Thinned.{Thinned}
 use Rattle.reach.specs.Inner.Whole.{StartsIn, EndsIn, Among}
@@ -64,15 +64,6 @@ drops s v z k ne o =
       row = λ y hy h. absurd (o .row y hy h);
       gives = λ x y hy. row-or-rest (λ x. Has z x y → Has v x y) k (λ h. absurd (o .row y hy h)) (λ x e h. sym (o .rest x y hy e) ∙ h) x;
       keeps = λ x y hy. row-or-rest (λ x. Has v x y → Has s 0 x → Has z x y) k (λ h p. absurd (ne p)) (λ x e h p. o .rest x y hy e ∙ h) x;
-    }
-
--- a node's own bit is taken out
-pub parts : (v z : List ℕ) (k : ℕ) → k < 128 → Removed v z k k → Thins (λ x y. x ≡ y → ⊥) v z k
-parts v z k hk o =
-    record {
-      row = λ y hy h e. o .gone (rw (← e) at h);
-      gives = o .gives;
-      keeps = λ x y hy h ne. o .keeps x y hy (λ p. let a = p .0 in let b = p .1 in ne (omega arith)) h;
     }
 
 -- a set's columns and then its rows are what is among the set

@@ -3,7 +3,7 @@ ghost use Prim.Native.Nat.{_+_, _*_, _<_, _≤_};
 ghost use lib.ListN.{length};
 ghost use Rattle.rows.specs.Inner.Rows.{Vouches, Holds, Low};
 ghost use Rattle.rows.specs.Inner.Growing.{RowGrown};
-ghost use Rattle.reach.specs.Inner.Whole.{Through, Then, Converse, StartsIn, EndsIn, Among, Away, Passed, Turning};
+ghost use Rattle.reach.specs.Inner.Whole.{Through, Then, Converse, StartsIn, EndsIn, Among, Stays, Passed, Turning};
 ghost use Rattle.reach.specs.Inner.Links.{Linked, Walked, Calm, Pulled, Settled, Begun};
 ghost use Rattle.listing.specs.Bytes.{countN, nodesOf};
 ghost use Rattle.listing.specs.Inner.Whole.{Whole};
@@ -231,12 +231,12 @@ pub fn columns(n: usize, s: &[u64; 2], w: &[u64; WORDS], v: &mut [u64; WORDS])
     }
 }
 
-// Keeps what leads elsewhere.
-pub fn no_loops(n: usize, w: &mut [u64; WORDS])
+// Puts each node into its own row: no step at all leads there.
+pub fn stay(n: usize, w: &mut [u64; WORDS])
     requires { ⌜ (n ≤ 128) × Low n (now w) ⌝ }
-    ensures { λ _. ⌜ Holds (now (w .exit)) n (Away (now (w .entry))) ⌝ }
+    ensures { λ _. ⌜ Holds (now (w .exit)) n (Stays (now (w .entry))) ⌝ }
 {
     for a in 0..n {
-        rows::take_out(w, a, a);
+        rows::put(w, a, a);
     }
 }

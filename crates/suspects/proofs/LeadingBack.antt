@@ -1,17 +1,19 @@
--- The rows of who leads back and of who comes round, from the rows of the pairs and of who meets whom.
+-- The rows of who leads back, and of the pairs on a chain, from the rows of the pairs and of who meets whom.
+use mathlib.Core.Path.{subst}
+use mathlib.Core.Logic.{inl, inr, ⊎-elim}
 use mathlib.Core.List.{List, [], _∷_}
 use Prim.Native.Nat.{ℕ, _<_}
 use native.Mathlib.Omega.{arith}
 use Rattle.listing.specs.Node.{Listing}
 use Rattle.order.specs.Rows.{All, Row}
 use Rattle.order.specs.Walks.{Access, Pair}
-use Rattle.order.proofs.Meeting.{meets-sym}
 use Rattle.rows.specs.Inner.Rows.{Has, Holds, Members, Link}
-use Rattle.reach.specs.Inner.Whole.{Through, Then, Converse, Away}
-use Rattle.suspects.specs.Inner.Back.{Turns, Leads, ComesRound, RowRound}
+use Rattle.reach.specs.Inner.Whole.{Through, Then, Converse, Stays}
+use Rattle.suspects.specs.Inner.Back.{Turns, Led, Leads, RowBack}
+use Rattle.suspects.specs.Inner.Suspect.{OnChain}
 use Rattle.meetings.specs.Inner.Meeting.{Meeting}
 use Rattle.meetings.proofs.Counted.{Counted, access-below}
-use Rattle.suspects.proofs.OnChain.{turns-lead, lead-turns}
+use Rattle.suspects.proofs.OnChain.{on-chain}
 
 module _ {L : Listing} {n : ℕ} (few : Counted L n) {p m : List ℕ} (hp : Holds p n (Pair L)) (hm : Holds m n (Meeting L)) where
   -- t keeps the pairs turned round, w one step of turning back, h all its steps
@@ -49,38 +51,43 @@ module _ {L : Listing} {n : ℕ} (few : Counted L n) {p m : List ℕ} (hp : Hold
     row-low a (x ∷ xs) c r = (all .whole x (r .0 .1) tt, row-low x xs c (r .1))
 
     -- leading back is turning back, step by step
-    pub leads-hold : Holds h n (λ a c. Access L a × Leads L a c)
-    leads-hold = record {
+    pub led-hold : Holds h n (λ a c. Access L a × Led L a c)
+    led-hold = record {
       sound = λ a c l g.
           let s = hh .sound a c l g in
           let r = row-sound a (s .2 .0) c (s .2 .1) in
-          (s .0, s .1, (r .0, turns-lead L a (s .2 .0) c (r .1)));
+          (s .0, s .1, (r .0, (s .2 .0, r .1)));
       whole = λ a c la lc g.
-          let k = g .1 in
-          let i = lead-turns L a c (k .0) (k .1) (k .2) (k .3) (k .4) in
-          let r = row-whole a (i .0) c (g .0) (i .1) in
-          hh .whole a c la lc (i .0, r, row-low a (i .0) c r);
+          let r = row-whole a (g .1 .0) c (g .0) (g .1 .1) in
+          hh .whole a c la lc (g .1 .0, r, row-low a (g .1 .0) c r);
     }
 
-  -- COMING ROUND: a pair whose end meets another node than its first that leads back to it
-  pub around-hold : {h h′ w : List ℕ} → Holds h n (λ a c. Access L a × Leads L a c) → Holds h′ n (Away h) → Holds w n (RowRound p m h′)
-      → Holds w n (ComesRound L)
-  around-hold hh ha hw = record {
+  lead-access : (a c : ℕ) → Access L a → Leads L a c → Access L c
+  lead-access a c t (inl e) = subst (Access L) e t
+  lead-access a c t (inr r) = last a (r .0) (r .1)
+    where
+      last : (a : ℕ) (inside : List ℕ) → Row (Turns L) a inside c → Access L c
+      last a [] t = t .2 .from
+      last a (x ∷ xs) t = last x xs (t .1)
+
+  -- PAIRS ON A CHAIN: those whose end meets a node that leads back to their first, no step at all included
+  pub chain-hold : {h h′ w : List ℕ} → Holds h n (λ a c. Access L a × Led L a c) → Holds h′ n (Stays h) → Holds w n (RowBack p m h′)
+      → Holds w n (OnChain L)
+  chain-hold {h} {h′} {w} hh hs hw = record {
     sound = λ a b l g.
         let s = hw .sound a b l g in
+        let pair = hp .sound a b l (s .2 .0) .2 in
         let k = s .2 .1 in
         let c = k .0 in
-        let x = ha .sound a c (k .1) (k .3) .2 in
-        let leads = hh .sound a c (k .1) (x .0) .2 .1 in
-        let meets = hm .sound b c (k .1) (k .2) .2 .2 in
-        (s .0, s .1, (hp .sound a b l (s .2 .0) .2, (c, x .1, leads, meets-sym L b c meets)));
-    whole = λ a b la lb g.
-        let pair = g .0 in
-        let r = g .1 in
-        let c = r .0 in
-        let from = r .2 .2 .from in
+        let leads : Leads L a c = ⊎-elim inl (λ x. inr (hh .sound a c (k .1) x .2 .1)) (hs .sound a c (k .1) (k .3) .2) in
+        (s .0, s .1, on-chain L a b pair .1 (c, hm .sound b c (k .1) (k .2) .2 .2, leads));
+    whole = λ a b la lb o.
+        let pair = o .1 .pairs .0 in
+        let k = on-chain L a b pair .0 o in
+        let c = k .0 in
+        let from = lead-access a c (pair .from) (k .2) in
         let lc = access-below few c from in
-        let meets = hm .whole b c lb lc (pair .to, from, meets-sym L c b (r .3)) in
-        let leads = ha .whole a c la lc (hh .whole a c la lc (pair .from, r .2), r .1) in
-        hw .whole a b la lb (hp .whole a b la lb pair, (c, omega (arith, lc), meets, leads));
+        let leads = ⊎-elim inl (λ x. inr (hh .whole a c la lc (pair .from, x))) (k .2) in
+        hw .whole a b la lb
+        (hp .whole a b la lb pair, (c, omega (arith, lc), hm .whole b c lb lc (pair .to, from, k .1), hs .whole a c la lc leads));
   }

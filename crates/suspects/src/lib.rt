@@ -1,5 +1,5 @@
 // The suspects among the pairs of a listing, as rows of bits: all of the failing-pair test that does not depend on one pair.
-mod returns;
+mod back;
 
 ghost use Rattle.listing.specs.Bytes.{countN, nodesOf};
 ghost use Rattle.listing.specs.Inner.Whole.{Whole};
@@ -43,8 +43,8 @@ pub fn exchanged_rows(bytes: &[u8], p: &[u64; WORDS], v: &mut [u64; WORDS], i: &
     reach::compose(n, v, p, i);
 }
 
-// The pairs, who meets whom, and the suspects: the pairs on a chain with a walk that no barrier bars. i and v are for the work: i keeps who
-// comes round until c keeps who returns; v the pairs turned round until c keeps who leads back, and then the walks without barrier.
+// The pairs, who meets whom, and the suspects: the pairs on a chain with a walk that no barrier bars. i is for the work: it keeps who leads back
+// to whom, and then the walks without barrier.
 pub fn suspects(
     question: u8,
     bytes: &[u8],
@@ -52,16 +52,12 @@ pub fn suspects(
     m: &mut [u64; WORDS],
     c: &mut [u64; WORDS],
     i: &mut [u64; WORDS],
-    v: &mut [u64; WORDS],
 )
     requires { ⌜ Whole (now bytes) ⌝ }
     ensures { λ _. ⌜ Ready question (now (bytes .entry)) (now (p .exit)) (now (m .exit)) (now (c .exit)) ⌝ }
 {
-    let n = listing::node_count(bytes);
     pair_rows(bytes, p);
     meetings::meet_rows(bytes, m);
-    returns::around_rows(bytes, p, m, v, c, i);
-    returns::returns_rows(n, p, m, i, c);
-    rows::narrow(p, c);
-    barriers::keep_clear(question, bytes, v, c);
+    back::chain_rows(bytes, p, m, i, c);
+    barriers::keep_clear(question, bytes, i, c);
 }

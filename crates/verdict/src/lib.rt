@@ -41,11 +41,10 @@ pub fn wrong_question(question: u64) -> bool
     false
 }
 
-// Puts the pairs that follow (a, b) on its chain at the buffer's start, and says how many there are. (a, b) is taken out of the pairs.
-// v is for the work.
+// Puts the pairs that follow (a, b) on its chain at the buffer's start, and says how many there are. v is for the work.
 fn follow(
     bytes: &[u8],
-    p: &mut [u64; WORDS],
+    p: &[u64; WORDS],
     m: &[u64; WORDS],
     v: &mut [u64; WORDS],
     a: usize,
@@ -58,7 +57,6 @@ fn follow(
     let n = listing::node_count(bytes);
     let mut ends = [0u64; 2];
     rows::copy_row(m, a, &mut ends);
-    rows::take_out(p, a, b);
     let mut d = [0u8; Listing::NODES];
     chains::chain(n, m, p, &ends, b, v, &mut d, out)
 }
@@ -66,7 +64,7 @@ fn follow(
 // Puts the chain of (a, b) at the buffer's start, and says how many pairs it has. v is for the work.
 fn show_chain(
     bytes: &[u8],
-    p: &mut [u64; WORDS],
+    p: &[u64; WORDS],
     m: &[u64; WORDS],
     v: &mut [u64; WORDS],
     a: usize,
@@ -98,7 +96,7 @@ pub fn decide(question: u8, bytes: &[u8], chain: &mut [u8]) -> JudgeAnswer
         return JudgeAnswer::Robust;
     }
     // nobody asks for the suspects any more, so their rows serve the work
-    let count = show_chain(bytes, &mut p, &m, &mut c, first, second, chain);
+    let count = show_chain(bytes, &p, &m, &mut c, first, second, chain);
     JudgeAnswer::Open {
         first,
         second,

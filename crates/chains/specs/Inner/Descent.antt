@@ -1,24 +1,12 @@
 -- Going down by the least pairs: what each step finds and writes.
 use mathlib.Core.Path.{_≡_}
-use mathlib.Core.Logic.{_⊎_}
 use mathlib.Core.List.{List, [], _∷_}
-use Prim.Native.Nat.{ℕ, suc, _+_, _-_, _*_, _≤_, _<_}
+use Prim.Native.Nat.{ℕ, suc, _+_, _*_, _≤_, _<_}
 use lib.ListN.{length, getD, take, drop, set}
 use Rattle.rows.specs.Inner.Rows.{Has}
 use Rattle.rows.specs.Inner.Least.{Least}
 use Rattle.chains.specs.Inner.Far.{unreached}
 use Rattle.chains.specs.Inner.Levels.{AtDistance, Into, Hits}
-
--- r is the least distance among the nodes below n of row x, unreached where none has one
-pub record Nearest (n : ℕ) (v d : List ℕ) (x r : ℕ) : Type 0 where
-  pub low : (y : ℕ) → y < n → Has v x y → r ≤ getD d y 0
-  pub here : (r ≡ unreached) ⊎ ((y : ℕ) × (y < n) × Has v x y × (getD d y 0 ≡ r))
-
--- the lesser of r and the distance of y, if y stands in row x
-pub record Nearer (v d : List ℕ) (x y r q : ℕ) : Type 0 where
-  pub low : q ≤ r
-  pub here : Has v x y → q ≤ getD d y 0
-  pub from : (q ≡ r) ⊎ (Has v x y × (getD d y 0 ≡ q))
 
 -- x hops to c, and c has a pair into the one row of s
 abbrev pub Mid : List ℕ → List ℕ → List ℕ → ℕ → ℕ → Type 0
@@ -41,22 +29,17 @@ pub data Steep (n : ℕ) (m w d : List ℕ) : ℕ → ℕ → List ℕ → Type 
   down : {r x c y : ℕ} {l : List ℕ} → c < n → Least (MidAt n m w d r x) 0 n c → y < n → Least (EndAt w d r c) 0 n y
       → Steep n m w d r y l → Steep n m w d (suc r) x (c ∷ y ∷ l)
 
--- x hops to a pair that ends at distance r
-abbrev pub Descends : ℕ → List ℕ → List ℕ → List ℕ → ℕ → ℕ → Type 0
-Descends n m w d x r = (c : ℕ) × (c < n) × MidAt n m w d r x c
-
--- every node that has a distance but 0 descends to the next
+-- every node that has a distance but 0 hops to a pair that ends at the next
 abbrev pub Slope : ℕ → List ℕ → List ℕ → List ℕ → Type 0
-Slope n m w d = (x r : ℕ) → x < n → getD d x 0 ≡ suc r → suc r < unreached → Descends n m w d x r
+Slope n m w d = (x r : ℕ) → x < n → getD d x 0 ≡ suc r → suc r < unreached → (c : ℕ) × (c < n) × MidAt n m w d r x c
 
 -- what a descent of k pairs from x into the buffer o stands on
 pub record Downhill (n : ℕ) (m w d o : List ℕ) (x k : ℕ) : Type 0 where
   pub few : n ≤ 128
   pub low : x < n
-  pub some : 0 < k
-  pub room : k ≤ n
+  pub at : getD d x 0 ≡ k
+  pub room : k < n
   pub fits : 2 * k ≤ length o
-  pub first : Descends n m w d x (k - 1)
   pub slope : Slope n m w d
 
 -- a pair is written

@@ -12,7 +12,7 @@ exchanged-rows-requires c κs = search needs
 returns : tie.Need-returns
 returns c =
     let laid = c .before .before .before .before in
-    let pre = laid .before .before .before .before .before .before .before .pre in
+    let pre = laid .before .before .before .before .before .before .pre in
     let ready = laid .suspects .ensures in
     record {
       pairs = ready .pairs;

@@ -30,9 +30,9 @@ EndsIn s w a b = Has w a b × Has s 0 b
 abbrev pub Among : List ℕ → List ℕ → ℕ → ℕ → Type 0
 Among s w a b = Has w a b × Has s 0 a × Has s 0 b
 
--- what leads elsewhere
-abbrev pub Away : List ℕ → ℕ → ℕ → Type 0
-Away w a b = Has w a b × (a ≡ b → ⊥)
+-- a step by w, or no step at all
+abbrev pub Stays : List ℕ → ℕ → ℕ → Type 0
+Stays w a b = (a ≡ b) ⊎ Has w a b
 
 -- k may now lie inside: one round of Warshall's, over the rows below n
 pub record Passed (w v : List ℕ) (n k : ℕ) : Type 0 where

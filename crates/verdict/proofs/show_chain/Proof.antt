@@ -14,7 +14,7 @@ abbrev start : tie.After-slice-known → tie.Start
 start c = c .before .before
 
 abbrev called : tie.After-follow → tie.Start
-called c = start (c .before .before .before .before)
+called c = start (c .before .before .before)
 
 cast-out : tie.Need-cast-out
 cast-out c = omega (arith, first-low _ _ _ _ _ (start c .pre .0))
@@ -39,7 +39,7 @@ part-follow-end c = search needs
 
 follow-requires : tie.Need-follow-requires
 follow-requires c κs =
-    let chained = start (c .before .before .before) .pre .0 in
+    let chained = start (c .before .before) .pre .0 in
     (chained, simp (length-take, length-drop, length-set) (omega (arith, chained .whole .few)))
 
 add-result : tie.Need-add-result

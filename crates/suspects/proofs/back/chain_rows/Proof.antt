@@ -1,11 +1,11 @@
--- `suspects::returns::around_rows` meets its contract.
+-- `suspects::back::chain_rows` meets its contract.
 use borrow.Author.Needs.{needs}
 use native.Mathlib.Omega.{arith}
 use Rattle.rows.proofs.Holds.{holds-low}
 use Rattle.meetings.proofs.Counted.{counted, low-at}
-use Rattle.suspects.proofs.LeadingBack.{leads-hold, around-hold}
-use Rattle.suspects.proofs.returns.around_rows.Statement.{statement}
-use Rattle.suspects.proofs.returns.around_rows.Tie as tie
+use Rattle.suspects.proofs.LeadingBack.{led-hold, chain-hold}
+use Rattle.suspects.proofs.back.chain_rows.Statement.{statement}
+use Rattle.suspects.proofs.back.chain_rows.Tie as tie
 
 node-count-requires : tie.Need-node-count-requires
 node-count-requires c κs = search needs
@@ -27,16 +27,16 @@ compose-requires c κs =
 close-requires : tie.Need-close-requires
 close-requires c κs = (omega arith, holds-low (c .before .before .compose .ensures))
 
-no-loops-requires : tie.Need-no-loops-requires
-no-loops-requires c κs = (omega arith, holds-low (c .before .close .ensures))
+stay-requires : tie.Need-stay-requires
+stay-requires c κs = (omega arith, holds-low (c .before .close .ensures))
 
-come-rows-requires : tie.Need-come-rows-requires
-come-rows-requires c κs = search needs
+back-rows-requires : tie.Need-back-rows-requires
+back-rows-requires c κs = search needs
 
 returns : tie.Need-returns
 returns c =
-    let away = c .before .before .before in
-    let h = away .before .before in
+    let stays = c .before .before .before in
+    let h = stays .before .before in
     let w = h .before .before .before in
     let t = w .before .before .before in
     let g = t .before .before in
@@ -44,12 +44,12 @@ returns c =
     let pre = n .before .before .pre in
     let few = counted (pre .0) in
     let e = n .node-count .ensures .0 in
-    around-hold few (pre .1) (pre .2)
-    (leads-hold few (pre .1) (pre .2) (g .gather .ensures) (rw e at (t .turn .ensures)) (rw e at (w .compose .ensures)) (rw e at (h .close .ensures)))
-    (rw e at (away .no-loops .ensures)) (rw e at (c .come-rows .ensures))
+    chain-hold few (pre .1) (pre .2)
+    (led-hold few (pre .1) (pre .2) (g .gather .ensures) (rw e at (t .turn .ensures)) (rw e at (w .compose .ensures)) (rw e at (h .close .ensures)))
+    (rw e at (stays .stay .ensures)) (rw e at (c .back-rows .ensures))
 
-pub around-rows-spec : {M : Type 1} → statement M
-around-rows-spec =
+pub chain-rows-spec : {M : Type 1} → statement M
+chain-rows-spec =
     tie.close
     (tie.spec
     node-count-requires
@@ -57,6 +57,6 @@ around-rows-spec =
     turn-requires
     compose-requires
     close-requires
-    no-loops-requires
-    come-rows-requires
+    stay-requires
+    back-rows-requires
     returns)

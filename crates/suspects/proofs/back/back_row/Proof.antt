@@ -1,18 +1,18 @@
--- `suspects::returns::come_row` meets its contract.
+-- `suspects::back::back_row` meets its contract.
 use borrow.Author.Needs.{needs}
 use native.Mathlib.Omega.{arith}
 use mathlib.Core.Path.{_≡_}
 use mathlib.Core.Logic.{⊎-elim}
 use Prim.Native.Nat.{_+_, _-_, _≤_, _<_}
 use Rattle.rows.specs.Inner.Rows.{Has}
-use Rattle.suspects.specs.Inner.Back.{RowRound}
+use Rattle.suspects.specs.Inner.Back.{RowBack}
 use Rattle.rows.specs.Inner.Growing.{RowGrown}
 use Rattle.rows.proofs.Growing.{grown-none, grown-put, grown-skip, grown-jump}
-use Rattle.suspects.proofs.returns.come_row.Statement.{statement}
-use Rattle.suspects.proofs.returns.come_row.Tie as tie
+use Rattle.suspects.proofs.back.back_row.Statement.{statement}
+use Rattle.suspects.proofs.back.back_row.Tie as tie
 
 abbrev Inv-loop : tie.InvT-loop
-Inv-loop n p m h w₀ a b₀ w b = (b ≤ n) × RowGrown (RowRound p m h) w₀ w a b × (b < n → Has p a b)
+Inv-loop n p m h w₀ a b₀ w b = (b ≤ n) × RowGrown (RowBack p m h) w₀ w a b × (b < n → Has p a b)
 
 abbrev μ-loop : tie.MeasureT-loop
 μ-loop n p m h w₀ a b₀ w b = n - b
@@ -53,7 +53,7 @@ loop-again c =
     let x = start at .args in
     let l : at .loop .b < 128 = omega arith in
     let named = inv .2 (turn .loop-test .taken) in
-    let row : RowGrown (RowRound (x .p .now) (x .m .now) (x .h .now)) (x .w .now) (j .if1 .w) (x .a) (at .loop .b + 1) =
+    let row : RowGrown (RowBack (x .p .now) (x .m .now) (x .h .now)) (x .w .now) (j .if1 .w) (x .a) (at .loop .b + 1) =
     ⊎-elim
     (λ q. rw (q .3) (grown-put _ _ _ _ _ _ l (inv .1) (named, rw (q .0 .taken) at tells) (q .2 .ensures)))
     (λ q. rw (q .1) (grown-skip _ _ _ _ _ (inv .1) (λ r. (rw (q .0 .left) at tells) (r .1))))
@@ -66,8 +66,8 @@ returns c =
     let e : at .loop .b ≡ start at .args .n = omega arith in
     rw e at (at .loop .inv .1)
 
-pub come-row-spec : {M : Type 1} → statement M
-come-row-spec =
+pub back-row-spec : {M : Type 1} → statement M
+back-row-spec =
     tie.close
     (tie.spec
     Inv-loop
