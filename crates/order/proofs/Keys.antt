@@ -20,12 +20,12 @@ module _ {A K : Type 0} (eqK : Discrete K) (key : A → K) where
       (c .0, m .0, c .1, c .2, m .2)
 
   -- the entries of xs have different keys, and none has k
-  abbrev Apart : K → List A → Type 0
-  Apart k xs = Different (k ∷ map key xs)
+  abbrev Distinct : K → List A → Type 0
+  Distinct k xs = Different (k ∷ map key xs)
 
-  apart-right : (k : K) (us vs : List A) → Apart k (us ++ vs) → Apart k vs
-  apart-right k [] vs d = d
-  apart-right k (u ∷ us) vs d = apart-right k us vs (λ i. d .0 (inr i), d .1 .1)
+  distinct-right : (k : K) (us vs : List A) → Distinct k (us ++ vs) → Distinct k vs
+  distinct-right k [] vs d = d
+  distinct-right k (u ∷ us) vs d = distinct-right k us vs (λ i. d .0 (inr i), d .1 .1)
 
   module _ (r : A → A → Type 0) (by-key : (a x y : A) → r a x → key x ≡ key y → r a y) where
     -- a row whose entries have different keys, the one that it ends at among them
@@ -46,7 +46,7 @@ module _ {A K : Type 0} (eqK : Discrete K) (key : A → K) where
         back s c = record {
           inside = c .1 ∷ c .2;
           row = (by-key a y (c .1) (h .0) (c .4), row-after r y (c .0) (c .1) (c .2) z (subst (λ (l : List A). Row r y l z) (c .3) (s .row)));
-          different = apart-right (key z) (c .0) (c .1 ∷ c .2) (subst (Apart (key z)) (c .3) (s .different));
+          different = distinct-right (key z) (c .0) (c .1 ∷ c .2) (subst (Distinct (key z)) (c .3) (s .different));
           among = λ x i. inr (s .among x (subst (In x) (sym (c .3)) (in-right (c .0) (c .1 ∷ c .2) x i)));
           short = inl (less (s .short));
         }

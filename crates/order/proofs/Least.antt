@@ -12,7 +12,7 @@ use Rattle.order.specs.Verdict.{Smaller, Shown}
 use Rattle.order.proofs.Lists.{all-in, pigeons, upto, in-upto, length-upto}
 use Rattle.order.proofs.Mapped.{mapped-in}
 use Rattle.order.proofs.Laws.{access-in}
-use Rattle.order.proofs.Rounds.{Round, chain-round, firstNode, firsts-chain, apart, shorten}
+use Rattle.order.proofs.Rounds.{Round, chain-round, firstNode, firsts-chain, spread, shorten}
 
 -- a round than which none is shorter
 pub record Best (L : Listing) (p : Ends) (rest : List Ends) : Type 0 where
@@ -21,7 +21,7 @@ pub record Best (L : Listing) (p : Ends) (rest : List Ends) : Type 0 where
 
 -- no two pairs of a shortest round have the same first node
 pub best-firsts : (L : Listing) (p : Ends) (rest : List Ends) → Best L p rest → Different (map firstNode (p ∷ rest))
-best-firsts L p rest s = let k = apart L p rest (s .round) in go (k .inside) (k .round) (k .firsts) (k .short)
+best-firsts L p rest s = let k = spread L p rest (s .round) in go (k .inside) (k .round) (k .firsts) (k .short)
   where
     go : (xs : List Ends) → Round L p xs → Different (map firstNode (p ∷ xs)) → (length xs < length rest) ⊎ (xs ≡ rest) → Different (map firstNode (p ∷ rest))
     go xs h d (inl m) = absurd (s .best xs h m)

@@ -33,7 +33,7 @@ pub firsts-chain : (L : Listing) (p : Ends) (rest : List Ends) → Round L p res
 firsts-chain L p rest h d = record { pairs = h .pairs; different = mapped-different firstNode (p ∷ rest) d; closed = h .closed }
 
 -- a round has one in it whose pairs start at different nodes: it is shorter, or the round itself
-pub record Apart (L : Listing) (p : Ends) (rest : List Ends) : Type 0 where
+pub record Spread (L : Listing) (p : Ends) (rest : List Ends) : Type 0 where
   pub inside : List Ends
   pub round : Round L p inside
   pub firsts : Different (map firstNode (p ∷ inside))
@@ -41,8 +41,8 @@ pub record Apart (L : Listing) (p : Ends) (rest : List Ends) : Type 0 where
   pub short : (length inside < length rest) ⊎ (inside ≡ rest)
 
 -- joined looks at the first node of the second pair only
-pub apart : (L : Listing) (p : Ends) (rest : List Ends) → Round L p rest → Apart L p rest
-apart L p rest h = record {
+pub spread : (L : Listing) (p : Ends) (rest : List Ends) → Round L p rest → Spread L p rest
+spread L p rest h = record {
   inside = k .inside;
   round = record {
     pairs = (h .pairs .0, in-all (IsPair L) (k .inside) (λ x i. all-in (IsPair L) rest (h .pairs .1) x (k .among x i)));
@@ -59,7 +59,7 @@ apart L p rest h = record {
 -- SHORTENING: A ROUND HAS A CHAIN IN IT THAT IS NO LONGER
 pub shorten : (L : Listing) (p : Ends) (rest : List Ends) → Round L p rest → (c : List Ends) × Chain L p c × (length c ≤ length rest) × Among c rest
 shorten L p rest h =
-    let k = apart L p rest h in
+    let k = spread L p rest h in
     (k .inside, firsts-chain L p (k .inside) (k .round) (k .firsts), no-longer (k .inside) (k .short), k .among)
   where
     no-longer : (xs : List Ends) → (length xs < length rest) ⊎ (xs ≡ rest) → length xs ≤ length rest
