@@ -46,7 +46,7 @@ same 'examples/README.md' "$(cat "$room/unlike")" ''
 # beside published answers: ROBUST, or OPEN with the number of accesses of the code that get a fence
 awk '
     FNR == NR { first[$1, $2] = $3; next }
-    {
+    !/: REFUSED/ {
         split($0, part, /[ :;]+/)
         nodes = split(substr($0, index($0, "PROPOSED ") + 9), node, " ")
         split("", fenced)

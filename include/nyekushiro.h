@@ -21,9 +21,9 @@
 #include <stddef.h>
 #include <stdint.h>
 
-#define NYEKUSHIRO_VERSION "1.4.0"
+#define NYEKUSHIRO_VERSION "1.5.0"
 #define NYEKUSHIRO_VERSION_MAJOR 1
-#define NYEKUSHIRO_VERSION_MINOR 4
+#define NYEKUSHIRO_VERSION_MINOR 5
 #define NYEKUSHIRO_VERSION_PATCH 0
 
 #ifdef __cplusplus
@@ -45,7 +45,8 @@ enum nyekushiro_kind {
     NYEKUSHIRO_REFUSED = 2
 };
 
-/* Why a service refuses, and in brackets what its place is: a node of the listing, an index of the map, or a byte of the text, or its length. */
+/* Why a service refuses, and in brackets what its place is: a node of the listing, an index of the map, or a byte of the text, or its length.
+ * The checks run in the order of these numbers, but 18 after 12 and before 13, and 17 before 5. */
 enum nyekushiro_refusal {
     NYEKUSHIRO_REFUSED_QUESTION = 1,          /* question not 1 to 6 */
     NYEKUSHIRO_REFUSED_HEADING = 2,           /* fewer than 7 bytes */
@@ -63,7 +64,8 @@ enum nyekushiro_refusal {
     NYEKUSHIRO_REFUSED_MAP_BYTE = 14,         /* map byte not 0 or 1 [index] */
     NYEKUSHIRO_REFUSED_PLACES = 15,           /* N + places over 128 */
     NYEKUSHIRO_REFUSED_BUFFER = 16,           /* lent output buffer too short */
-    NYEKUSHIRO_REFUSED_TEXT = 17              /* bad text [byte] */
+    NYEKUSHIRO_REFUSED_TEXT = 17,             /* bad text [byte] */
+    NYEKUSHIRO_REFUSED_UNREACHED = 18         /* node neither its routine's entry nor reached from it [node] */
 };
 
 /* The questions. Each may be asked of a listing of either version. */
@@ -92,7 +94,10 @@ enum nyekushiro_room {
  * lead on; examples/may-fail.txt is one.
  *
  * Whoever writes a shared cell while the routines run must be in the listing, be it a loader or a device that writes it once: reads
- * of a cell that nobody in the listing writes are taken not to matter. */
+ * of a cell that nobody in the listing writes are taken not to matter.
+ *
+ * The lowest-numbered node of a routine is its entry. Every other node must be reached from it by successors; the lowest one that is not
+ * is refused by NYEKUSHIRO_REFUSED_UNREACHED. */
 enum nyekushiro_node {
     NYEKUSHIRO_NODE_PLAIN = 0,
     NYEKUSHIRO_NODE_READ = 1,

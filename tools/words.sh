@@ -56,6 +56,11 @@ remedy() { # NUMBER PLACE
         case $command in accept) few=' Name fewer nodes.' ;; *) few='' ;; esac
         printf '%s\n' "the listing with its fences has over 128 nodes.$few" "$smaller"
         ;;
+    18)
+        echo "does the code get to node $2? Then a link was forgotten: look for that first, and put it in."
+        echo "Is routine $routine entered at node $2? Then number that node first; if at node $entry too, put a plain node first that leads to both."
+        echo 'Neither? Then it never runs: take it out.'
+        ;;
     *)
         echo "correct node $2: its six bytes start at byte $((7 + 6 * $2)) of the listing."
         case $1 in
@@ -75,7 +80,38 @@ refused() { # NUMBER PLACE
     case $form-$1 in
     text-17) say "$(about wrong "place=$2")" ;;
     text-5 | text-6) say "Next: $(text_remedy "$1")" ;;
-    *) say "Next: $(remedy "$1" "$2")" ;;
+    *) advise "$1" "$2" ;;
+    esac
+}
+
+# Says what to do next; of a node that is cut off, from where, first.
+advise() { # NUMBER PLACE
+    [ "$1" != 18 ] || cut_off "$2"
+    say "Next: $(remedy "$1" "$2")"
+}
+
+# Says of which routine a node is that no walk from the entry reaches, and which other nodes are so. Sets routine and entry.
+cut_off() { # NODE
+    # shellcheck disable=SC2046  # a word a number
+    set -- "$1" $(printf '%s\n' "$listing" | awk -v "node=$1" '
+        { for (i = 1; i <= NF; i++) byte[bytes++] = 64 * substr($i, 1, 1) + 8 * substr($i, 2, 1) + substr($i, 3, 1) }
+        function reach(n) { if (n != 255 && !(n in reached)) { reached[n]; more = 1 } }
+        END {
+            for (n = 0; n < byte[6]; n++) if (!(byte[7 + 6 * n] in entry)) { entry[byte[7 + 6 * n]] = n; reach(n) }
+            while (more) {
+                more = 0
+                for (n = 0; n < byte[6]; n++) if (n in reached) { reach(byte[11 + 6 * n]); reach(byte[12 + 6 * n]) }
+            }
+            print byte[7 + 6 * node], entry[byte[7 + 6 * node]]
+            for (n = 0; n < byte[6]; n++) if (!(n in reached) && n != node) print n
+        }')
+    node=$1 routine=$2 entry=$3
+    shift 3
+    say "Node $node is of routine $routine, whose entry is its lowest-numbered node, $entry. No walk from node $entry reaches node $node."
+    case $# in
+    0) ;;
+    1) say "Cut off too: node $1." ;;
+    *) say "Cut off too: nodes $*." ;;
     esac
 }
 

@@ -35,17 +35,27 @@ impl Marked {
 
     /// Stops where something was not met that must be, or was that can't be.
     pub fn must_be_as_marked(&self) {
-        let wrong = self.unlike_the_marks();
+        self.must_be_met(1);
+    }
+
+    /// The same, but what must be met must be met so often.
+    pub fn must_be_met(&self, least: usize) {
+        let wrong = self.unlike_the_marks(least);
         if !wrong.is_empty() {
             panic!("not met as it must be, so ask for more with NYEKUSHIRO_INPUTS or mend the inputs: {}", wrong.join("; "));
         }
     }
 
-    fn unlike_the_marks(&self) -> Vec<String> {
+    fn unlike_the_marks(&self, least: usize) -> Vec<String> {
         let mut wrong = Vec::new();
         for ((name, marks), counts) in self.rows.iter().zip(&self.counts) {
             for ((column, mark), count) in self.columns.iter().zip(marks.chars()).zip(counts) {
-                if mark != '?' && (mark == '+') != (*count > 0) {
+                let is_wrong = match mark {
+                    '+' => *count < least,
+                    '-' => *count > 0,
+                    _ => false,
+                };
+                if is_wrong {
                     wrong.push(format!("{name}: {column} {count} times"));
                 }
             }
@@ -76,7 +86,8 @@ mod tests {
         marked.count(0, 0);
         marked.count(0, 2);
         marked.count(1, 0);
-        assert_eq!(marked.unlike_the_marks(), ["other: left 1 times", "other: right 0 times"]);
+        assert_eq!(marked.unlike_the_marks(1), ["other: left 1 times", "other: right 0 times"]);
+        assert_eq!(marked.unlike_the_marks(2), ["one: left 1 times", "other: left 1 times", "other: right 0 times"]);
     }
 
     #[test]
@@ -87,6 +98,6 @@ mod tests {
             marked
         };
         let both = one().and(one());
-        assert_eq!((both.total(), both.unlike_the_marks().len()), (2, 0));
+        assert_eq!((both.total(), both.unlike_the_marks(2).len()), (2, 0));
     }
 }

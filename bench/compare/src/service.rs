@@ -43,7 +43,7 @@ impl Service {
         match number {
             1 => self.takes_question(),
             5 | 6 => true,
-            2..=4 | 7..=12 => self != Service::Text,
+            2..=4 | 7..=12 | 18 => self != Service::Text,
             13 | 14 => matches!(self, Service::JudgePatch | Service::Write),
             15 => self.has_places(),
             16 => self != Service::Read,

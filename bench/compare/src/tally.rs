@@ -250,12 +250,17 @@ mod tests {
         assert!(is_missing("version 2, Judge: a chain of two pairs") && !is_missing("version 2, Judge: a chain of one pair"));
         assert!(is_missing("version 2, JudgePatch: a chain of one pair") && is_missing("version 1, Judge: a chain of one pair"));
         assert!(is_missing("version 2, Write:  9 kind over 4 in version 1, over 9 in version 2"));
+        for service in [Service::Read, Service::Judge, Service::JudgePatch, Service::Propose, Service::Write] {
+            for version in ["version 1", "version 2"] {
+                assert!(is_missing(&format!("{version}, {service:?}: 18 node neither its routine's entry nor reached from it")));
+            }
+        }
         assert!(is_missing("no such version, or a text, Read:  4 version not 1 or 2"));
         assert!(is_missing("no such version, or a text, Text: 17 bad text"));
     }
 
     #[test]
-    #[should_panic(expected = "Judge refused by 18, which is none of its refusals")]
+    #[should_panic(expected = "Judge refused by 19, which is none of its refusals")]
     fn stops_at_a_number_beyond_the_table() {
         count(Service::Judge, raw::Answer::REFUSED, REFUSALS as u64 + 1);
     }
@@ -270,6 +275,12 @@ mod tests {
     #[should_panic(expected = "Read refused by 13, which is none of its refusals")]
     fn stops_at_a_refusal_of_another_service() {
         count(Service::Read, raw::Answer::REFUSED, 13);
+    }
+
+    #[test]
+    #[should_panic(expected = "Text refused by 18, which is none of its refusals")]
+    fn stops_at_a_text_with_an_unreached_node() {
+        count(Service::Text, raw::Answer::REFUSED, 18);
     }
 
     #[test]

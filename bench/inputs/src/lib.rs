@@ -4,11 +4,13 @@
 
 mod calls;
 mod damage;
+mod links;
 mod listings;
 mod long_texts;
 mod numbers;
 mod random;
 mod rehearsed;
+mod rings;
 mod shapes;
 mod sketch;
 mod text_damage;
@@ -16,8 +18,8 @@ mod texts;
 mod typed;
 
 pub use calls::Call;
-pub use damage::damaged;
-pub use listings::{random_listing, random_listing_of, short_routines, tiny_listing, vague_listing};
+pub use damage::{cut_off, damaged};
+pub use listings::{loose_listing, random_listing, random_listing_of, short_routines, tiny_listing, vague_listing};
 pub use long_texts::{items, nested_blanks, LongText};
 pub use numbers::*;
 pub use random::Random;

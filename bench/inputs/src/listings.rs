@@ -1,10 +1,13 @@
-//! Listings by chance: good ones, of every shape.
+//! Listings by chance: good ones, of every shape, in which every node is its routine's entry or reached from it; and some in which nobody
+//! looks to that.
 
+use crate::links::{in_order, link_in};
 use crate::numbers::{
     is_access, ACQUIRE, ACQUIRE_PC, FENCE, LAST_CELL, LOAD_FENCE, NONE, PLAIN, READ, RELEASE, RMW, ROUTINES, STORE_FENCE,
     VERSIONS, WRITE,
 };
 use crate::random::Random;
+use crate::rings::{go_on, Ring};
 use crate::sketch::{bytes, Record};
 
 /// How the nodes of a routine lead to each other.
@@ -12,15 +15,35 @@ use crate::sketch::{bytes, Record};
 enum Links {
     /// to the next one
     Line,
+    /// the lowest number to the highest, and each down to the one before
+    Downward,
     /// to the next one, at times to a later one as well
     Branches,
     /// as branches, at times back
     Loops,
+    /// as loops, but in any order after the lowest number
+    AnyOrder,
     /// anywhere, itself included, or nowhere
     Anywhere,
-    /// in pieces of a few nodes that nothing leads to
+    /// in pieces of a few nodes, to which nothing leads yet
     Pieces,
 }
+
+/// Those of a listing, most of them twice as often as others.
+const LINKS: [Links; 12] = [
+    Links::Line,
+    Links::Line,
+    Links::Downward,
+    Links::Branches,
+    Links::Branches,
+    Links::Loops,
+    Links::Loops,
+    Links::AnyOrder,
+    Links::Anywhere,
+    Links::Anywhere,
+    Links::Pieces,
+    Links::Pieces,
+];
 
 /// Which locations the accesses have.
 struct Palette {
@@ -155,10 +178,18 @@ pub fn tiny_listing(random: &mut Random) -> Vec<u8> {
     }
 }
 
+/// A listing with this many nodes, of either version, that breaks no rule before 18: a routine's entry need not lead to all of its nodes.
+pub fn loose_listing(random: &mut Random, nodes: usize) -> Vec<u8> {
+    let choices = Choices::of(random.one_of(&VERSIONS));
+    let (routines, links) = (random.from_to(1, 3), random.one_of(&[Links::Anywhere, Links::Anywhere, Links::Pieces]));
+    let records = records(random, nodes, routines, links, &ANY, choices.mixed);
+    bytes(choices.version, routines as u8, &records)
+}
+
 /// A good listing of four routines with loops and every kind of its version.
 pub fn woven(random: &mut Random, version: u8, nodes: usize) -> Vec<u8> {
     let choices = Choices::of(version);
-    listing(random, choices, nodes, 4, Links::Loops, &ANY, choices.mixed)
+    bytes(version, 4, &records(random, nodes, 4, Links::Loops, &ANY, choices.mixed))
 }
 
 impl Choices {
@@ -168,37 +199,38 @@ impl Choices {
 }
 
 fn of_any_links(random: &mut Random, choices: &Choices, nodes: usize, routines: usize, palettes: &Palettes) -> Vec<u8> {
-    let links = random.one_of(&[Links::Line, Links::Branches, Links::Loops, Links::Anywhere, Links::Pieces]);
+    let links = random.one_of(&LINKS);
     let kinds = if random.once_in(4) { choices.few_writers } else { choices.mixed };
-    listing(random, choices, nodes, routines, links, palettes, kinds)
+    let mut records = records(random, nodes, routines, links, palettes, kinds);
+    let routines = link_in(random, &mut records, routines);
+    bytes(choices.version, routines as u8, &records)
 }
 
-fn listing(
+/// Records that lead to each other, but for pieces and for those that lead anywhere: there a routine's entry need not lead to all.
+fn records(
     random: &mut Random,
-    choices: &Choices,
     nodes: usize,
     routines: usize,
     links: Links,
     palettes: &Palettes,
     kinds: &[Kinds],
-) -> Vec<u8> {
+) -> Vec<Record> {
     let owners = owners(random, nodes, routines);
+    let own: Vec<Vec<u8>> = (0..routines).map(|routine| order(random, links, &owners, routine as u8)).collect();
     let palette = Palette {
         cells: random.one_of(palettes.cells),
         unknown_once_in: random.one_of(palettes.unknown_once_in),
         block_once_in: random.one_of(palettes.block_once_in),
     };
     let kinds = random.one_of(kinds);
-    let records: Vec<Record> = (0..nodes)
-        .map(|node| {
-            let own: Vec<u8> = (0..nodes).filter(|&other| owners[other] == owners[node]).map(|other| other as u8).collect();
-            let (first, second) = successors(random, links, &own, node as u8);
-            let kind = random.one_of(kinds);
-            let location = if is_access(kind) { palette.location(random) } else { 0 };
-            Record { routine: owners[node], kind, location, first, second }
-        })
-        .collect();
-    bytes(choices.version, routines as u8, &records)
+    let record = |node: usize| {
+        let routine = owners[node];
+        let (first, second) = successors(random, links, &own[routine as usize], node as u8);
+        let kind = random.one_of(kinds);
+        let location = if is_access(kind) { palette.location(random) } else { 0 };
+        Record { routine, kind, location, first, second }
+    };
+    (0..nodes).map(record).collect()
 }
 
 /// A routine for each node: one after another, or mixed.
@@ -208,6 +240,24 @@ fn owners(random: &mut Random, nodes: usize, routines: usize) -> Vec<u8> {
         owners.sort_unstable();
     }
     owners
+}
+
+/// A routine's nodes in the order in which they lead to each other; the first is its entry and has the lowest number.
+fn order(random: &mut Random, links: Links, owners: &[u8], routine: u8) -> Vec<u8> {
+    let mut own: Vec<u8> = (0..).zip(owners).filter(|(_, owner)| **owner == routine).map(|(node, _)| node).collect();
+    let Some((_, others)) = own.split_first_mut() else { return own };
+    match links {
+        Links::Downward => others.reverse(),
+        Links::AnyOrder => shuffle(random, others),
+        _ => {}
+    }
+    own
+}
+
+fn shuffle<T>(random: &mut Random, items: &mut [T]) {
+    for at in (1..items.len()).rev() {
+        items.swap(at, random.below(at + 1));
+    }
 }
 
 impl Palette {
@@ -225,61 +275,38 @@ impl Palette {
     }
 }
 
-/// The successors of a node among its routine's nodes, `own`.
+/// The successors of a node among its routine's nodes, `own`, which are in their order.
 fn successors(random: &mut Random, links: Links, own: &[u8], node: u8) -> (u8, u8) {
     let at = own.iter().position(|&other| other == node).expect("a node is of its own routine");
     let next = own.get(at + 1).copied();
     let later = |random: &mut Random| own[random.from_to(at, own.len() - 1)];
     let any = |random: &mut Random| own[random.below(own.len())];
     let (one, other) = match links {
-        Links::Line => (next, None),
+        Links::Line | Links::Downward => (next, None),
         Links::Branches => (next, random.once_in(3).then(|| later(random)).filter(|&other| other > node)),
-        Links::Loops => (next, random.once_in(3).then(|| any(random))),
+        Links::Loops | Links::AnyOrder => (next, random.once_in(3).then(|| any(random))),
         Links::Anywhere => ((!random.once_in(4)).then(|| any(random)), random.once_in(2).then(|| any(random))),
         Links::Pieces => (if random.once_in(3) { None } else { next }, None),
     };
     in_order(one, other)
 }
 
-/// "If both are present, the second is larger than the first."
-fn in_order(one: Option<u8>, other: Option<u8>) -> (u8, u8) {
-    match (one, other) {
-        (Some(one), Some(other)) if one != other => (one.min(other), one.max(other)),
-        (one, other) => (one.or(other).unwrap_or(NONE), NONE),
-    }
-}
-
-/// Pieces of two or three nodes that lead from one cell to the next and around, so that the only chain has all of them.
+/// A ring of pieces of two or three nodes, in any order.
 fn ring(random: &mut Random, choices: &Choices, nodes: usize) -> Vec<u8> {
-    let size = random.from_to(2, 3);
-    let (pieces, routines) = (nodes / size, random.from_to(1, ROUTINES));
-    let mut order: Vec<usize> = (0..pieces).collect();
-    for at in (1..pieces).rev() {
-        order.swap(at, random.below(at + 1));
-    }
+    let ring = Ring::fitting(random.from_to(2, 3), random.from_to(1, ROUTINES), nodes);
+    let mut cells: Vec<usize> = (0..ring.pieces).collect();
+    shuffle(random, &mut cells);
     let (fenced, ends) = (random.once_in(4), random.one_of(choices.ends));
-    let mut records = Vec::new();
-    for (piece, &cell) in order.iter().enumerate() {
-        let routine = (piece * routines / pieces.max(1)) as u8;
-        for at in 0..size {
-            let number = records.len() as u8;
-            let first = if at + 1 < size { number + 1 } else { NONE };
-            let (kind, location) = match at {
-                0 => (ends[0], 1 + cell),
-                _ if at + 1 == size => (ends[1], 1 + (cell + 1) % pieces),
-                _ => (if fenced { random.one_of(choices.between) } else { PLAIN }, 0),
-            };
-            records.push(Record { routine, kind, location: location as u16, first, second: NONE });
-        }
-    }
-    while records.len() < nodes {
-        records.push(Record { routine: 0, kind: PLAIN, location: 0, first: NONE, second: NONE });
-    }
-    bytes(choices.version, routines as u8, &records)
+    let records = ring.records(nodes, |piece, at| match at {
+        0 => (ends[0], 1 + cells[piece] as u16),
+        _ if at + 1 == ring.size => (ends[1], 1 + ((cells[piece] + 1) % ring.pieces) as u16),
+        _ => (if fenced { random.one_of(choices.between) } else { PLAIN }, 0),
+    });
+    bytes(choices.version, ring.routines as u8, &records)
 }
 
 /// Two or three lines that lead from one cell to the next and around, each of two accesses with at most two nodes between them, which
-/// the first may lead past; and plain nodes where more are asked for.
+/// the first may lead past; and plain nodes after them where more are asked for.
 fn handed_over(random: &mut Random, choices: &Choices, nodes: usize) -> Vec<u8> {
     let lines = random.from_to(2, 3).min(nodes / 2);
     let mut records = Vec::new();
@@ -300,9 +327,7 @@ fn handed_over(random: &mut Random, choices: &Choices, nodes: usize) -> Vec<u8> 
             records.push(Record { routine: line as u8, kind, location: location as u16, first, second });
         }
     }
-    while records.len() < nodes {
-        records.push(Record { routine: 0, kind: PLAIN, location: 0, first: NONE, second: NONE });
-    }
+    go_on(&mut records, nodes);
     bytes(choices.version, lines as u8, &records)
 }
 

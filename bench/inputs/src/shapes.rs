@@ -3,6 +3,7 @@
 use crate::listings::woven;
 use crate::numbers::{FENCE, NONE, READ, RMW, ROUTINES, WRITE};
 use crate::random::Random;
+use crate::rings::Ring;
 use crate::sketch::{bytes, Record};
 
 /// A shape's name, and a listing of it with this many nodes.
@@ -14,7 +15,7 @@ pub const SHAPES: [Shape; 6] = [
     ("lines", |random, nodes| lines(random, nodes, false)),
     // the same with a fence after each access: no pair fails, and all must be looked at
     ("fenced", |random, nodes| lines(random, nodes, true)),
-    // pieces of two nodes around as many cells: the longest chains
+    // pieces of two nodes around as many cells, and plain nodes that lead to them: the longest chains
     ("ring", |_, nodes| ring_of_pieces(nodes)),
     // one straight routine in which no two accesses meet: every pair wants order, and none lies on a chain
     ("lonely", lonely),
@@ -43,14 +44,10 @@ fn lines(random: &mut Random, nodes: usize, fenced: bool) -> Vec<u8> {
 }
 
 fn ring_of_pieces(nodes: usize) -> Vec<u8> {
-    let records: Vec<Record> = (0..nodes)
-        .map(|node| {
-            let cell = node.div_ceil(2) % (nodes / 2) + 1;
-            let (kind, first) = if node % 2 == 0 { (WRITE, node as u8 + 1) } else { (READ, NONE) };
-            Record { routine: 0, kind, location: cell as u16, first, second: NONE }
-        })
-        .collect();
-    bytes(1, 1, &records)
+    let ring = Ring::fitting(2, ROUTINES, nodes);
+    let cell = |piece: usize| (piece % ring.pieces + 1) as u16;
+    let records = ring.records(nodes, |piece, at| if at == 0 { (WRITE, cell(piece)) } else { (READ, cell(piece + 1)) });
+    bytes(1, ROUTINES as u8, &records)
 }
 
 fn lonely(random: &mut Random, nodes: usize) -> Vec<u8> {

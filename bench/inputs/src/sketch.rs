@@ -24,6 +24,11 @@ impl Record {
     pub fn all(listing: &[u8]) -> Vec<Record> {
         (0..nodes(listing)).map(|node| Record::of(listing, node)).collect()
     }
+
+    /// The nodes that it leads to.
+    pub fn next(&self) -> impl Iterator<Item = usize> {
+        [self.first, self.second].into_iter().filter(|&next| next != NONE).map(usize::from)
+    }
 }
 
 /// The bytes of a listing of this version with these records.

@@ -46,6 +46,10 @@ use raw::{CHAIN_BUFFER, LISTING_BUFFER, MAP_BUFFER};
 /// ```
 /// let size = nyekushiro::read(b"ORD\x01\x00\x01\x00")?;
 /// assert_eq!((size.nodes, size.routines), (0, 1));
+///
+/// // 0 plain, which is the entry and leads nowhere, 1 plain
+/// let refusal = nyekushiro::read(b"ORD\x01\x00\x01\x02\x00\x00\x00\x00\xff\xff\x00\x00\x00\x00\xff\xff").unwrap_err();
+/// assert_eq!(refusal.to_string(), "node neither its routine's entry nor reached from it (refusal 18, node 1)");
 /// # Ok::<(), nyekushiro::Refusal>(())
 /// ```
 pub fn read(listing: &[u8]) -> Result<Size, Refusal> {

@@ -9,7 +9,7 @@ use crate::raw;
 /// ```
 /// use nyekushiro::{Place, Reason};
 /// // two plain nodes and one of kind 5, which version 1 does not have
-/// let listing = b"ORD\x01\x00\x01\x03\x00\x00\x00\x00\xff\xff\x00\x00\x00\x00\xff\xff\x00\x05\x00\x00\xff\xff";
+/// let listing = b"ORD\x01\x00\x01\x03\x00\x00\x00\x00\x01\xff\x00\x00\x00\x00\x02\xff\x00\x05\x00\x00\xff\xff";
 /// let refusal = nyekushiro::read(listing).unwrap_err();
 /// assert_eq!((refusal.reason, refusal.place), (Reason::Kind, Some(Place::Node(2))));
 /// assert_eq!(refusal.to_string(), "kind over 4 in version 1, over 9 in version 2 (refusal 9, node 2)");
@@ -195,6 +195,9 @@ table! {
         "mend the word that starts there, or go on where the text ends: a part is routine { block }, an item is r, w or u and a number \
          (1 to 5 digits, at most 65535), f, loop { block } or either { block } { block }, at most 8 deep; no block is empty, and words \
          stand apart";
+    18 Unreached node "node neither its routine's entry nor reached from it"
+        "number the routine's entry lowest, and put in each link that is missing on the way from it to the node; what is entered by \
+         itself is a routine of its own, and what never runs is left out";
 }
 
 impl Reason {
@@ -224,13 +227,14 @@ mod tests {
         assert_eq!(refused(7, 0).to_string(), "length not 7 + 6N (refusal 7)");
         assert_eq!(refused(14, 3).to_string(), "map byte not 0 or 1 (refusal 14, index 3)");
         assert_eq!(refused(17, 0).to_string(), "bad text (refusal 17, byte 0)");
+        assert_eq!(refused(18, 3).to_string(), "node neither its routine's entry nor reached from it (refusal 18, node 3)");
     }
 
     #[test]
     fn number_beyond_the_table_is_still_a_refusal() {
-        let refusal = refused(18, 5);
-        assert_eq!((refusal.reason, refusal.place), (Reason::Unknown(18), Some(Place::Unknown(5))));
-        assert_eq!(refusal.to_string(), "a reason that is newer than this wrapper (refusal 18, place 5)");
+        let refusal = refused(19, 5);
+        assert_eq!((refusal.reason, refusal.place), (Reason::Unknown(19), Some(Place::Unknown(5))));
+        assert_eq!(refusal.to_string(), "a reason that is newer than this wrapper (refusal 19, place 5)");
         assert_eq!(refusal.advice(), "use the wrapper that belongs to the archive");
     }
 

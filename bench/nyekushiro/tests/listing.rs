@@ -11,14 +11,30 @@ fn between(from: &str, to: &str) -> Vec<&'static str> {
     PAGE.lines().skip_while(|&line| line != from).skip(1).take_while(|line| !line.starts_with(to)).collect()
 }
 
-/// Bytes in words of two digits; `(00 FF)x3` is what the brackets hold, three times.
+/// Bytes in words of two digits; `(00 FF)x3` is what the brackets hold, three times, and `+` in a node's record is the next node's number.
 fn bytes(text: &str) -> Vec<u8> {
+    let mut bytes = Vec::new();
+    for word in words(text) {
+        bytes.push(if word == "+" { next_node(bytes.len()) } else { byte(word) });
+    }
+    bytes
+}
+
+/// The words, with what brackets hold as often as they say.
+fn words(text: &str) -> Vec<&str> {
     let Some((before, rest)) = text.split_once('(') else {
-        return text.split_whitespace().map(byte).collect();
+        return text.split_whitespace().collect();
     };
     let (repeated, rest) = rest.split_once(")x").unwrap_or_else(|| panic!("{text:?} has a bracket without its number"));
     let (times, after) = rest.split_once(' ').unwrap_or((rest, ""));
-    [bytes(before), bytes(repeated).repeat(times.parse().unwrap()), bytes(after)].concat()
+    [words(before), words(repeated).repeat(times.parse().unwrap()), words(after)].concat()
+}
+
+/// The number of the node after the one whose record has this byte of a listing.
+fn next_node(at: usize) -> u8 {
+    let (heading, record) = (7, 6);
+    let in_records = at.checked_sub(heading).expect("+ stands in a node's record");
+    (in_records / record + 1) as u8
 }
 
 fn byte(digits: &str) -> u8 {
@@ -103,7 +119,7 @@ fn every_row_is_refused_so() {
         let at = at.parse().unwrap();
         let place = match place {
             "0" if at == 0 => None,
-            "node" => Some(Place::Node(at)),
+            "node" | "the lowest such node" => Some(Place::Node(at)),
             "index of the first such" => Some(Place::Index(at)),
             "byte" => Some(Place::Byte(at)),
             _ => panic!("{row:?} has a place that is none"),
@@ -113,5 +129,16 @@ fn every_row_is_refused_so() {
         assert_eq!(words, reason.to_string(), "{row:?}");
         numbers.push(reason.number());
     }
+    // "Checks run in this order": 18 comes after 12, before 13
+    let in_order: Vec<u64> = (1..=12).chain([18]).chain(13..=17).collect();
+    assert_eq!(numbers, in_order);
+    numbers.sort_unstable();
     assert_eq!(numbers, Reason::ALL.map(Reason::number));
+}
+
+#[test]
+fn examples_are_written_so() {
+    assert_eq!(bytes("01 (00)x3 FF"), [1, 0, 0, 0, 255]);
+    let line = bytes("4F 52 44 01 00 01 03 (00 00 00 00 + FF)x2 00 00 00 00 FF FF");
+    assert_eq!(line, b"ORD\x01\x00\x01\x03\x00\x00\x00\x00\x01\xff\x00\x00\x00\x00\x02\xff\x00\x00\x00\x00\xff\xff");
 }

@@ -15,6 +15,7 @@
 //! ```
 
 mod chains;
+mod entries;
 mod listing;
 mod need;
 mod nodes;

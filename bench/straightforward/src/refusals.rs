@@ -1,5 +1,6 @@
 //! The table of refusals, a function for each input of a service. A service asks for its inputs in the table's order.
 
+use crate::entries::first_unreached;
 use crate::listing::{Kind, Listing, Node, HEADING, MOST_NODES, MOST_ROUTINES, NONE, RECORD, VERSIONS};
 use crate::need::Question;
 use crate::nodes;
@@ -28,7 +29,7 @@ pub fn question(number: u64) -> Result<Question, Refusal> {
     }
 }
 
-/// Refusals 2 to 12.
+/// Refusals 2 to 12, and then 18.
 pub fn listing(bytes: &[u8]) -> Result<Listing, Refusal> {
     if bytes.len() < HEADING {
         return refuse(2, 0);
@@ -50,7 +51,11 @@ pub fn listing(bytes: &[u8]) -> Result<Listing, Refusal> {
     for number in 0..count {
         nodes.push(node(version, routines, &records, number)?);
     }
-    Ok(Listing { version, routines, nodes })
+    let listing = Listing { version, routines, nodes };
+    match first_unreached(&listing) {
+        Some(number) => refuse(18, number),
+        None => Ok(listing),
+    }
 }
 
 /// Refusals 5 and 6.

@@ -4,8 +4,12 @@ use crate::listing::{Kind, Kinds, Listing, Node};
 
 /// The nodes to which a walk from `from` leads that has only nodes inside which `may_be_inside` admits.
 pub fn walks(listing: &Listing, from: usize, may_be_inside: impl Fn(&Node) -> bool) -> Vec<bool> {
+    reached(listing, listing.nodes[from].next().collect(), may_be_inside)
+}
+
+/// The nodes that are waiting, and those to which a walk leads from one of them past nodes that `may_be_inside` admits.
+pub fn reached(listing: &Listing, mut waiting: Vec<usize>, may_be_inside: impl Fn(&Node) -> bool) -> Vec<bool> {
     let mut reached = vec![false; listing.nodes.len()];
-    let mut waiting: Vec<usize> = listing.nodes[from].next().collect();
     while let Some(node) = waiting.pop() {
         if reached[node] {
             continue;

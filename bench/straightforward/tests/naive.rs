@@ -1,8 +1,8 @@
 //! The rules once more, by trying everything: all walks, all locations, all lists of different pairs, all short closed chains of steps.
 //! Thousands of tiny listings are judged both ways.
 
-use inputs::{tiny_listing, version, Random};
-use straightforward::{judge, judge_patch, propose, write, Answer, CHAIN_BUFFER};
+use inputs::{cut_off, loose_listing, tiny_listing, version, Random};
+use straightforward::{judge, judge_patch, propose, read, write, Answer, Refusal, CHAIN_BUFFER};
 
 type Pair = (usize, usize);
 
@@ -65,6 +65,10 @@ impl<'a> Tiny<'a> {
         tiny
     }
 
+    fn routine(&self, node: usize) -> u8 {
+        self.records[node][0]
+    }
+
     fn kind(&self, node: usize) -> u8 {
         self.records[node][1]
     }
@@ -79,6 +83,14 @@ impl<'a> Tiny<'a> {
 
     fn insides(&self, pair: Pair) -> impl Iterator<Item = &Vec<usize>> {
         self.walks.iter().filter(move |walk| (walk.0, walk.2) == pair).map(|walk| &walk.1)
+    }
+
+    /// 18's place, if there is one: the lowest node that is not the lowest of its routine, and to which no walk leads from that one.
+    fn unreached(&self) -> Option<usize> {
+        (0..self.records.len()).find(|&node| {
+            let lowest = (0..=node).find(|&other| self.routine(other) == self.routine(node));
+            lowest != Some(node) && !self.walks.iter().any(|walk| (Some(walk.0), walk.2) == (lowest, node))
+        })
     }
 
     /// The pairs, by first node, then second node.
@@ -282,6 +294,37 @@ fn judged(question: u64, listing: &[u8], map: &[u8]) -> Option<Vec<Pair>> {
             Some(chain[..2 * count].chunks(2).map(|pair| (pair[0] as usize, pair[1] as usize)).collect())
         }
     }
+}
+
+#[test]
+fn unreached_nodes_by_trying_every_walk() {
+    let mut random = Random::seeded(7);
+    // how often nothing was refused, and how often each of the first nodes
+    let mut met = [0; 7];
+    for _ in 0..30000 {
+        let listing = match random.below(3) {
+            0 => tiny_listing(&mut random),
+            1 => {
+                let good = tiny_listing(&mut random);
+                cut_off(&mut random, &good)
+            }
+            _ => {
+                let nodes = random.from_to(1, 7);
+                loose_listing(&mut random, nodes)
+            }
+        };
+        // with as many links as nodes a walk leads wherever any does
+        let place = Tiny::new(1, &listing, listing[6] as usize).unreached();
+        let refused = place.map(|place| Refusal { number: 18, place: place as u64 });
+        let (mut lent, map) = ([0; 775], vec![0; listing[6] as usize]);
+        assert_eq!(read(&listing).err(), refused, "{listing:?}");
+        assert_eq!(judge(1, &listing, &mut lent).err(), refused, "{listing:?}");
+        assert_eq!(judge_patch(1, &listing, &map, &mut lent).err(), refused, "{listing:?}");
+        assert_eq!(propose(1, &listing, &mut lent).err(), refused, "{listing:?}");
+        assert_eq!(write(&listing, &map, &mut lent).err(), refused, "{listing:?}");
+        met[place.unwrap_or(0).min(6)] += 1;
+    }
+    assert!(met.iter().all(|&count| count > 100), "too few of an answer to mean anything: {met:?}");
 }
 
 #[test]

@@ -9,14 +9,14 @@ fn refused<T>(number: u64, place: u64) -> Result<T, Refusal> {
     Err(Refusal { number, place })
 }
 
-/// A version 1 listing of two routines whose node 1 is this one; node 0 and node 2 are plain, of routine 0 and 1.
+/// A version 1 listing of two routines whose node 1 is this one; node 0, which leads to it, and node 2 are plain, of routine 0 and 1.
 fn with_node(kind: u8, location: u16, first: u8, second: u8) -> Vec<u8> {
     in_version(1, kind, location, first, second)
 }
 
 fn in_version(version: u8, kind: u8, location: u16, first: u8, second: u8) -> Vec<u8> {
-    let plain = |routine| Record { routine, kind: 0, location: 0, first: NONE, second: NONE };
-    bytes(version, 2, &[plain(0), Record { routine: 0, kind, location, first, second }, plain(1)])
+    let plain = |routine, first| Record { routine, kind: 0, location: 0, first, second: NONE };
+    bytes(version, 2, &[plain(0, 1), Record { routine: 0, kind, location, first, second }, plain(1, NONE)])
 }
 
 fn with_byte(at: usize, byte: u8) -> Vec<u8> {
@@ -66,12 +66,34 @@ fn rows_of_the_listing() {
         (with_node(1, 1, 1, 1), 12, 1),
         (in_version(2, ACQUIRE, 1, 2, NONE), 11, 1),
         (in_version(2, ACQUIRE_PC, 1, NONE, 0), 12, 1),
+        // the entry leads nowhere, or to some and not to all
+        (sketch("p>255 p"), 18, 1),
+        (sketch("w1>255 r2; w2 r1"), 18, 1),
+        (sketch("l1 a2>255 q2"), 18, 2),
+        (sketch("p>1,2 p>255 p>255 p"), 18, 3),
+        // what leads to it is not reached either
+        (sketch("p>255 p>2 p>1"), 18, 1),
+        (sketch("p>255 p>1"), 18, 1),
+        (sketch("p p>255 p>0 p>1"), 18, 2),
+        // a node that leads to all, and is not the lowest
+        (sketch("p>255 p>0"), 18, 1),
+        (sketch("p p>255 p>0"), 18, 2),
+        // the lowest of all routines
+        (sketch("p; p>255 p; p>255 p"), 18, 2),
+        (mixed(&[0, 1, 1, 0]), 18, 2),
+        (mixed(&[1, 0, 0, 1]), 18, 2),
     ];
     for (listing, number, place) in cases {
         assert_eq!(read(listing), refused(*number, *place), "{listing:?}");
         assert_eq!(judge(1, listing, &mut []), refused(*number, *place), "{listing:?}");
         assert_eq!(write(listing, &[9], &mut []), refused(*number, *place), "{listing:?}");
     }
+}
+
+/// A version 1 listing of two routines in which each node is of this one and leads nowhere.
+fn mixed(routines: &[u8]) -> Vec<u8> {
+    let record = |&routine: &u8| Record { routine, kind: 0, location: 0, first: NONE, second: NONE };
+    bytes(1, 2, &routines.iter().map(record).collect::<Vec<_>>())
 }
 
 #[test]
@@ -86,6 +108,38 @@ fn good_at_the_edge() {
     {
         assert!(read(&listing).is_ok(), "{listing:?}");
     }
+    // entries alone, in any order of the routines; numbers that fall, on the way or back; what is reached past two others
+    for listing in
+        [mixed(&[0]), mixed(&[1]), mixed(&[1, 0]), sketch("p>3 p>255 p>1 p>2"), sketch("p>1 p>0"), sketch("p>2 p>255 p>1,2")]
+    {
+        assert!(read(&listing).is_ok(), "{listing:?}");
+    }
+}
+
+/// "after 12 on all nodes, before 13"
+#[test]
+fn unreached_nodes_come_after_all_nodes_and_before_the_map() {
+    // node 1 is not reached, and node 2 breaks 12, or 9
+    for (kind, first, second, number) in [(0, NONE, 0, 12), (9, NONE, NONE, 9), (0, NONE, NONE, 18)] {
+        let mut listing = sketch("p>255 p>255 p");
+        listing[19 + 1] = kind;
+        listing[19 + 4] = first;
+        listing[19 + 5] = second;
+        let place = if number == 18 { 1 } else { 2 };
+        assert_eq!(read(&listing), refused(number, place));
+        assert_eq!(propose(1, &listing, &mut []), refused(number, place));
+    }
+    // a map that is too short, that has another byte, that has too many places; no room for the answer
+    let listing = sketch("p>255 p");
+    for map in [&[][..], &[2, 0], &[0, 0]] {
+        assert_eq!(judge_patch(1, &listing, map, &mut []), refused(18, 1));
+        assert_eq!(write(&listing, map, &mut []), refused(18, 1));
+    }
+    assert_eq!(judge(1, &listing, &mut []), refused(18, 1));
+    let many = sketch(&format!("{}p>255 p", "p ".repeat(63)));
+    assert_eq!(write(&many, &[1; 65], &mut []), refused(18, 64));
+    // and the question comes before all
+    assert_eq!(judge(7, &listing, &mut []), refused(1, 0));
 }
 
 #[test]

@@ -120,7 +120,7 @@ fn shortcuts_that_look_right() {
         ("three pairs do", 2, "w1 w2; w2 w3; w3 w1", "OPEN 0 1 3 0-1 2-3 4-5"),
         ("an RMW inside a walk with a fence counts too", 3, "w1>1,4 f u9 f r2; w2 w1", "OPEN 0 4 2 0-4 5-6"),
         ("an RMW writes what two reads read", 2, "r1 r2; r2 r1; u1; u2", "OPEN 0 1 2 0-1 2-3"),
-        ("so does a node of their own routine", 2, "r1 r2>255 w1>255 w2; r2 r1", "OPEN 0 1 2 0-1 4-5"),
+        ("so does a node of their own routine", 2, "p>1,3 r1 r2>255 p>4,5 w1>255 w2; r2 r1", "OPEN 1 2 2 1-2 6-7"),
         ("a write to another cell does not", 2, "r1 r2; r2 r1; w1; w3", "ROBUST"),
         ("an acquire inside is no barrier", 5, "w1 a3 w2; q2 r1", "OPEN 0 2 2 0-2 3-4"),
         ("a release inside neither", 5, "w1 l3 w2; q2 r1", "OPEN 0 2 2 0-2 3-4"),

@@ -10,7 +10,6 @@ use Rattle.listing.specs.Limits.{NODES}
 use Rattle.listing.specs.Node.{Listing}
 use Rattle.listing.specs.Bytes.{byte, countN, nodesOf}
 use Rattle.listing.specs.Rules.{Refusal, passed, refused, firstOf}
-use Rattle.listing.specs.Read.{readRules}
 use Rattle.listing.proofs.Table.{pass, pass-first, pass-then}
 use Rattle.order.specs.Verdict.{Robust, Verdict, robust, opened, Judged}
 use Rattle.order.specs.Steps.{Ordered}
@@ -22,6 +21,7 @@ use Rattle.patch.specs.Patching.{mapRules, fitRules, patchRules}
 use Rattle.patch.specs.Accepting.{Fits}
 use Rattle.patch.proofs.MapRules.{patchedOf, fit-stops, fit-passes}
 use Rattle.listing.specs.Ascii.{bytes}
+use Rattle.reader.specs.Read.{readRules}
 use Rattle.acceptance.specs.Accept.{mapOf, acceptedLine, PatchedLine, acceptRules, NamedLine, AcceptLine}
 
 -- ── Which line says ACCEPTED ────────────────────────────────────────────────

@@ -5,7 +5,6 @@ use Prim.Native.Nat.{ℕ}
 use Rattle.listing.specs.Node.{Listing}
 use Rattle.listing.specs.Bytes.{nodesOf}
 use Rattle.listing.specs.Rules.{Rule, Refusal, passed, firstOf}
-use Rattle.listing.specs.Read.{readRules}
 use Rattle.listing.proofs.Table.{pass, pass-first, pass-then}
 use Rattle.order.specs.Verdict.{Verdict, robust, opened, Judged}
 use Rattle.order.specs.Patched.{patched}
@@ -15,6 +14,7 @@ use Rattle.fencing.specs.Marks.{marksOf}
 use Rattle.verdict.specs.Judging.{questionRules}
 use Rattle.patch.specs.Patching.{mapRules, fitRules, patchRules, askRules}
 use Rattle.listing.specs.Ascii.{bytes}
+use Rattle.reader.specs.Read.{readRules}
 use Rattle.lines.specs.Text.{decimal}
 use Rattle.say.proofs.CaseA.{listing, admitted, nodes}
 use Rattle.acceptance.specs.Accept.{mapOf, acceptedLine, PatchedLine, acceptRules, NamedLine, AcceptLine}

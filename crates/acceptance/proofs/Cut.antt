@@ -9,9 +9,9 @@ use lib.ListN.{take, drop}
 use lib.Seq.{take-nil, take-take}
 use Rattle.listing.specs.Bytes.{byte}
 use Rattle.listing.specs.Rules.{Rule, Refusal, passed, refused, firstOf}
-use Rattle.listing.specs.Read.{readRules}
 use Rattle.listing.specs.Inner.Numbered.{orElse}
 use Rattle.listing.proofs.Table.{firstOf-append}
+use Rattle.reader.specs.Read.{readRules}
 use Rattle.fencing.specs.Marks.{marksOf}
 use Rattle.verdict.specs.Judging.{questionRules}
 use Rattle.patch.specs.Patching.{mapRules, fitRules, patchRules, askRules}

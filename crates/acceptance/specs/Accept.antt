@@ -48,7 +48,7 @@ abbrev pub PatchedLine : Refusal → ℕ → Listing → List ℕ → Type 0
 PatchedLine passed q L line = (v : Verdict) × Judged q L v × (line ≡ acceptedLine v)
 PatchedLine (refused k p) q L line = line ≡ refusalLine k p
 
--- "refused by 1, then 2 to 12, then 13 to 15"
+-- "refused by 1, then 2 to 12, then 18, then 13 to 15"
 abbrev pub acceptRules : ℕ → List ℕ → List ℕ → List Rule
 acceptRules q s map = questionRules q ++ patchRules s map
 

@@ -8,7 +8,7 @@ use listing::Listing;
 // As many, for a heading.
 pub const FULL: u8 = Listing::NODES as u8;
 
-// As many writes of unknown cells, each its own successor, under a heading of version 1 that says n.
+// As many writes of unknown cells in a ring, under a heading of version 1 that says n.
 // Under questions 2 and 3 each is the first node of a failing pair.
 pub fn put_full(out: &mut [u8; Listing::LONGEST], n: u8)
     ensures { λ _. ⌜ recordAt NODES ≡ length (now (out .exit)) ⌝ }
@@ -16,7 +16,16 @@ pub fn put_full(out: &mut [u8; Listing::LONGEST], n: u8)
     listing::put_heading(&mut *out, 1, 1, n);
     let mut i: usize = 0;
     while i < Listing::NODES {
-        listing::put_record(&mut *out, i, 0, listing::WRITE, 0, i as u8, listing::NONE);
+        let next = (i + 1) % Listing::NODES;
+        listing::put_record(
+            &mut *out,
+            i,
+            0,
+            listing::WRITE,
+            0,
+            next as u8,
+            listing::NONE,
+        );
         i += 1;
     }
 }

@@ -168,7 +168,14 @@ fn refusals(a: &[u8]) {
     ask_short(b"no listing with 257 bytes", 1, b"ORD");
 }
 
-pub fn judging(a: &[u8]) {
+// A node that its routine's entry does not reach, after the question and before the buffer.
+fn cut_off(bytes: &[u8]) {
+    ask(b"cut off", 2, bytes);
+    ask(b"cut off", NO_QUESTION, bytes);
+    ask_short(b"cut off with 257 bytes", 2, bytes);
+}
+
+pub fn judging(a: &[u8], dead: &[u8]) {
     case(b"A", a);
     two_cells();
     exchanges();
@@ -180,4 +187,5 @@ pub fn judging(a: &[u8]) {
     neighbours();
     sizes();
     refusals(a);
+    cut_off(dead);
 }

@@ -11,6 +11,9 @@ fn main() {
       \x00\x01\x02\x00\xFF\xFF\
       \x01\x02\x02\x00\x03\xFF\
       \x01\x01\x01\x00\xFF\xFF";
-    judging::judging(a);
-    patching::patching(a);
+    let dead = b"ORD\x01\x00\x01\x02\
+      \x00\x02\x01\x00\xFF\xFF\
+      \x00\x02\x02\x00\xFF\xFF";
+    judging::judging(a, dead);
+    patching::patching(a, dead);
 }

@@ -97,7 +97,14 @@ fn full() {
     write(b"write 128 nodes with one place", &bytes, &map);
 }
 
-pub fn patching(a: &[u8]) {
+// A node that its routine's entry does not reach, before what is wrong with a map.
+fn cut_off(bytes: &[u8]) {
+    ask(b"cut off with a map of 3 bytes", 2, bytes, b"\x01\x00\x00");
+    propose(b"propose cut off", 2, bytes);
+    write(b"write cut off with a map byte 2", bytes, b"\x00\x02");
+}
+
+pub fn patching(a: &[u8], dead: &[u8]) {
     case_a(a);
     fences(
         b"ORD\x01\x00\x02\x05\
@@ -109,4 +116,5 @@ pub fn patching(a: &[u8]) {
     );
     empty(b"ORD\x01\x00\x01\x00");
     full();
+    cut_off(dead);
 }

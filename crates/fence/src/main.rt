@@ -11,7 +11,7 @@ use patch::WriteAnswer;
 fn map_length(bytes: &[u8]) -> usize
     ensures { λ r. ⌜ r ≤ NODES ⌝ }
 {
-    match listing::read(bytes) {
+    match reader::read(bytes) {
         ReadAnswer::Good(l) => l.nodes,
         ReadAnswer::Refused {
             number: _,

@@ -7,19 +7,19 @@ use lib.ListN.{length, take, drop}
 use lib.Seq.{take-at, drop-at}
 use Rattle.listing.specs.Limits.{NODES}
 use Rattle.listing.specs.Bytes.{versionOf, countF, countN, recordAt, nodesOf, bytesOf}
-use Rattle.listing.specs.Read.{Admitted}
 use Rattle.listing.specs.Answer.{filled}
 use Rattle.listing.proofs.Nodes.{nodes-length}
-use Rattle.listing.proofs.Headed.{admitted-headed}
 use Rattle.listing.proofs.RoundTrip.{bytes-length, read-version, read-countF, read-written}
-use Rattle.listing.proofs.Valid.{admitted-valid, valid-admitted}
 use Rattle.order.specs.Patched.{places, patched}
 use Rattle.order.proofs.Patch.{length-patched}
+use Rattle.reader.specs.Read.{Admitted}
+use Rattle.reader.proofs.Admitted.{admitted-headed, admitted-valid, admitted-entered, valid-admitted}
 use Rattle.fencing.specs.Marks.{marksOf}
 use Rattle.fencing.specs.Inner.MapFits.{MapFits}
 use Rattle.fencing.specs.Written.{Fenced, Written}
 use Rattle.fencing.proofs.Marks.{mapped}
 use Rattle.fencing.proofs.PatchedValid.{patched-valid}
+use Rattle.fencing.proofs.PatchedEntered.{patched-entered}
 use Rattle.fencing.proofs.PatchedFenced.{patched-fenced}
 
 module _ (s bytes : List ℕ) (fits : MapFits s bytes) where
@@ -33,6 +33,7 @@ module _ (s bytes : List ℕ) (fits : MapFits s bytes) where
       let few : length (patched (nodesOf s) (marksOf bytes)) ≤ NODES = omega (arith, count, fits .few) in
       valid-admitted (versionOf s) (countF s) (patched (nodesOf s) (marksOf bytes)) (h .version) (h .some) (h .routines) few
       (patched-valid (nodesOf s) (marksOf bytes) (versionOf s) (countF s) (admitted-valid s e))
+      (patched-entered (nodesOf s) (marksOf bytes) (admitted-entered s e))
 
   -- WHAT IS WRITTEN READS BACK AS THE OLD NODES WITH EXACTLY THE FENCES ASKED FOR
   pub written : (old out : List ℕ) (r : ℕ) → Admitted s → r ≡ recordAt (countN s + places (marksOf bytes))

@@ -7,8 +7,8 @@ use lib.ListN.{length, take, drop}
 use Rattle.listing.specs.Kinds.{FENCE}
 use Rattle.listing.specs.Node.{Node, none, Listing, node}
 use Rattle.listing.specs.Bytes.{versionOf, countF, nodesOf}
-use Rattle.listing.specs.Read.{Admitted}
 use Rattle.order.specs.Patched.{Marks, marked, places}
+use Rattle.reader.specs.Read.{Admitted}
 use Rattle.fencing.specs.Marks.{marksOf}
 
 -- "Fences are numbered from N upward in the order of the nodes they follow": the fence after a comes after those of the marks before a

@@ -1,4 +1,4 @@
--- What an admitted heading says, and conversely.
+-- What a heading that passes says, and conversely.
 use mathlib.Core.Path.{_≡_, refl, ap}
 use mathlib.Core.Bool.{false, not, _&&_}
 use mathlib.Core.List.{List}
@@ -11,7 +11,7 @@ use Rattle.listing.specs.Kinds.{isVersion}
 use Rattle.listing.specs.Bytes.{byte, versionOf, countF}
 use Rattle.listing.specs.Inner.Whole.{Whole}
 use Rattle.listing.specs.Rules.{NoneApplies}
-use Rattle.listing.specs.Read.{wrongMark, wrongF, headingRules, Admitted}
+use Rattle.listing.specs.Form.{wrongMark, wrongF, headingRules, Formed}
 use Rattle.listing.specs.Valid.{Headed}
 use Rattle.listing.proofs.Bools.{or-neither, neither-or, and-both, T-true, not-holds}
 use Rattle.listing.proofs.Rows.{rows-clear}
@@ -68,6 +68,6 @@ headed-clear s h =
 pub headed-whole : (s : List ℕ) → Headed s → Whole s
 headed-whole s h = record { few = h .nodes; long = omega (arith, h .exact) }
 
--- AN ADMITTED LISTING'S HEADING
-pub admitted-headed : (s : List ℕ) → Admitted s → Headed s
-admitted-headed s e = clear-headed s (rows-clear s e .0)
+-- THE HEADING OF A LISTING OF RIGHT FORM
+pub formed-headed : (s : List ℕ) → Formed s → Headed s
+formed-headed s e = clear-headed s (rows-clear s e .0)

@@ -11,10 +11,10 @@ use Rattle.listing.specs.Limits.{HEADING, RECORD}
 use Rattle.listing.specs.Node.{Node, Listing}
 use Rattle.listing.specs.Bytes.{byte, word, versionOf, countF, countN, recordAt, nodeFrom, nodesFrom, nodesOf}
 use Rattle.listing.specs.Bytes.{headingBytes, nodeBytes, nodesBytes, bytesOf}
-use Rattle.listing.specs.Read.{Admitted}
+use Rattle.listing.specs.Form.{Formed}
 use Rattle.listing.specs.Valid.{Headed}
 use Rattle.listing.proofs.Nodes.{nodes-length}
-use Rattle.listing.proofs.Headed.{admitted-headed}
+use Rattle.listing.proofs.Headed.{formed-headed}
 
 -- ── Reading what was written ────────────────────────────────────────────────
 pub nodes-bytes-length : (L : Listing) → length (nodesBytes L) ≡ RECORD * length L
@@ -123,10 +123,10 @@ unfolding nodesOf
 nodes-written s b h = records-written s HEADING (countN s) b h
 
 -- WRITING WHAT WAS READ gives the bytes back
-pub write-read : (s : List ℕ) → Bytes s → Admitted s → bytesOf (versionOf s) (countF s) (nodesOf s) ≡ s
+pub write-read : (s : List ℕ) → Bytes s → Formed s → bytesOf (versionOf s) (countF s) (nodesOf s) ≡ s
 unfolding bytesOf
 write-read s b e =
-    let h = admitted-headed s e in
+    let h = formed-headed s e in
     ap₂ (λ (x y : List ℕ). x ++ y)
     (ap (headingBytes (versionOf s) (countF s)) (nodes-length s) ∙ heading-written s b h)
     (nodes-written s b (h .exact))

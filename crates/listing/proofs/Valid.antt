@@ -1,4 +1,4 @@
--- What the table admits, said of nodes: an admitted listing's nodes are valid, and the bytes of valid nodes are admitted.
+-- The form, said of nodes: the nodes of a listing of right form are valid, and the bytes of valid nodes are of right form.
 use mathlib.Core.Path.{_≡_, refl, sym, ap, _∙_, subst}
 use mathlib.Core.Logic.{_≢_, _⊎_, inl, inr}
 use mathlib.Core.Bool.{Bool, true, false, not, _&&_, _||_}
@@ -13,7 +13,7 @@ use Rattle.listing.specs.Kinds.{isVersion, kindsOf, hasNoLocation}
 use Rattle.listing.specs.Node.{Node, none, Listing, node}
 use Rattle.listing.specs.Bytes.{versionOf, countF, countN, nodeAt, nodesOf, bytesOf}
 use Rattle.listing.specs.Rules.{NoneApplies}
-use Rattle.listing.specs.Read.{wrongRoutine, wrongKind, wrongLocation, astray, wrongSuccessor, wrongOrder, nodeRules, Admitted}
+use Rattle.listing.specs.Form.{wrongRoutine, wrongKind, wrongLocation, astray, wrongSuccessor, wrongOrder, nodeRules, Formed}
 use Rattle.listing.specs.Valid.{Headed, Goes, NodeOk, Valid}
 use Rattle.listing.proofs.Nodes.{nodes-length, nodes-at}
 use Rattle.listing.proofs.Bools.{bool?, or-neither, neither-or, and-lacks, lacks-and, yes-holds, no-fails}
@@ -109,15 +109,15 @@ module _ (s : List ℕ) where
       let successor = neither-or (astray s i (n .first)) (astray s i (n .second)) first second in
       (routine, (kind, (location, (successor, (right-order (n .first) (n .second) (ok .order), tt)))))
 
-  -- AN ADMITTED LISTING'S NODES ARE VALID
-  pub admitted-valid : Admitted s → Valid (versionOf s) (countF s) (nodesOf s)
-  admitted-valid e a h =
+  -- THE NODES OF A LISTING OF RIGHT FORM ARE VALID
+  pub formed-valid : Formed s → Valid (versionOf s) (countF s) (nodesOf s)
+  formed-valid e a h =
       let k : a < countN s = omega (arith, nodes-length s) in
       subst (NodeOk (versionOf s) (countF s) (nodesOf s)) (sym (nodes-at s a k)) (clear-ok a (rows-clear s e .1 a k))
 
   -- and conversely, under a heading that is right
-  pub headed-admitted : Headed s → Valid (versionOf s) (countF s) (nodesOf s) → Admitted s
-  headed-admitted h v =
+  pub headed-formed : Headed s → Valid (versionOf s) (countF s) (nodesOf s) → Formed s
+  headed-formed h v =
       clear-rows s (headed-clear s h)
       (λ a k. ok-clear a (subst (NodeOk (versionOf s) (countF s) (nodesOf s)) (nodes-at s a k) (v a (omega (arith, nodes-length s)))))
 
@@ -136,9 +136,9 @@ module _ (v f : ℕ) (L : Listing) (is : T (isVersion v)) (low : 1 ≤ f) (high 
     exact = bytes-length v f L;
   }
 
-  -- THE BYTES OF VALID NODES ARE ADMITTED
-  pub valid-admitted : Valid v f L → Admitted (bytesOf v f L)
-  valid-admitted valid =
+  -- THE BYTES OF VALID NODES ARE OF RIGHT FORM
+  pub valid-formed : Valid v f L → Formed (bytesOf v f L)
+  valid-formed valid =
       let s = bytesOf v f L in
-      headed-admitted s written-headed
+      headed-formed s written-headed
       (rw (read-version v f L, read-countF v f L, read-written v f L) valid)

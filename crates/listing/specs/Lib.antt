@@ -5,6 +5,6 @@ pub mod Ascii
 pub mod Bytes
 pub mod Rules
 pub mod Answer
-pub mod Read
+pub mod Form
 pub mod Valid
 pub mod Inner

@@ -1,4 +1,4 @@
--- Serves only theorems (admitted-valid, valid-admitted, the round trip): what the table admits, said of the heading (rules 2 to 7) and of the nodes (8 to 12).
+-- Serves only theorems (formed-valid, valid-formed, the round trip): a listing's form, said of the heading (rules 2 to 7) and of the nodes (8 to 12).
 use mathlib.Core.Path.{_≡_}
 use mathlib.Core.Logic.{_≢_, _⊎_}
 use mathlib.Core.List.{List}

@@ -1,4 +1,4 @@
-// A listing of thread routines: its limits, versions and kinds, the fields of its records, its reader, and the writer of its parts.
+// A listing of thread routines: its limits, versions and kinds, the fields of its records, the check of its form, and the writer of its parts.
 mod rules;
 
 ghost use mathlib.Core.Path.{_≡_};
@@ -11,7 +11,7 @@ ghost use Rattle.listing.specs.Node.{node};
 ghost use Rattle.listing.specs.Bytes.{versionOf, countF, countN, recordAt, nodesOf, headingBytes, nodeBytes};
 ghost use Rattle.listing.specs.Inner.Whole.{Whole};
 ghost use Rattle.listing.specs.Answer.{filled};
-ghost use Rattle.listing.specs.Read.{readSays, readOf};
+ghost use Rattle.listing.specs.Form.{readSays, formOf};
 
 // A listing that was read: its counts. The limits are its own.
 pub struct Listing {
@@ -167,9 +167,9 @@ pub fn second_at(bytes: &[u8], i: usize) -> u8
     bytes[Listing::HEADING + Listing::RECORD * i + 5]
 }
 
-// A listing is read, or refused by the first of the refusals 2 to 12 that applies.
-pub fn read(bytes: &[u8]) -> ReadAnswer
-    ensures { λ r. ⌜ readSays r ≡ readOf (now (bytes .entry)) ⌝ }
+// The counts of a listing whose form is right, or the first of the refusals 2 to 12 that applies.
+pub fn form(bytes: &[u8]) -> ReadAnswer
+    ensures { λ r. ⌜ readSays r ≡ formOf (now (bytes .entry)) ⌝ }
 {
     let number = rules::heading(bytes);
     if number != 0 {

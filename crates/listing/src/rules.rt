@@ -7,7 +7,7 @@ ghost use Rattle.listing.specs.Bytes.{countN};
 ghost use Rattle.listing.specs.Inner.Whole.{Whole};
 ghost use Rattle.listing.specs.Rules.{firstOf};
 ghost use Rattle.listing.specs.Inner.Numbered.{numbered};
-ghost use Rattle.listing.specs.Read.{
+ghost use Rattle.listing.specs.Form.{
   wrongMark,
   headingRules,
   wrongRoutine,

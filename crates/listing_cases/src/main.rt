@@ -20,7 +20,7 @@ fn line(word: &[u8], a: usize, b: usize) {
 
 fn case(name: &[u8], bytes: &[u8]) {
     io::write_all(1, name);
-    match listing::read(bytes) {
+    match reader::read(bytes) {
         ReadAnswer::Good(l) => line(b": GOOD ", l.nodes, l.routines),
         ReadAnswer::Refused { number, place } => line(b": REFUSED ", number as usize, place),
     }
@@ -157,20 +157,53 @@ fn two_records() {
     );
 }
 
-// Plain nodes of one routine, as many as a listing may have, under a heading of version 1 that says n.
+// Nodes that walks from their routine's entry reach, and nodes that none does.
+fn entries() {
+    case(
+        b"cut off",
+        b"ORD\x01\x00\x01\x02\x00\x02\x01\x00\xFF\xFF\x00\x02\x02\x00\xFF\xFF",
+    );
+    case(
+        b"a loop that nothing enters",
+        b"ORD\x01\x00\x01\x03\x00\x02\x01\x00\xFF\xFF\x00\x02\x02\x00\x02\xFF\x00\x01\x02\x00\x01\xFF",
+    );
+    case(
+        b"numbered backward",
+        b"ORD\x01\x00\x01\x02\x00\x01\x01\x00\xFF\xFF\x00\x02\x02\x00\x00\xFF",
+    );
+    case(
+        b"entered from above",
+        b"ORD\x01\x00\x01\x03\x00\x02\x01\x00\x02\xFF\x00\x01\x02\x00\xFF\xFF\x00\x02\x02\x00\x01\xFF",
+    );
+    case(
+        b"two routines",
+        b"ORD\x01\x00\x02\x03\x00\x02\x01\x00\xFF\xFF\x01\x02\x02\x00\xFF\xFF\x00\x01\x02\x00\xFF\xFF",
+    );
+    case(
+        b"the lowest of two",
+        b"ORD\x01\x00\x01\x04\x00\x00\x00\x00\x03\xFF\x00\x02\x01\x00\x02\xFF\x00\x02\x02\x00\xFF\xFF\x00\x01\x01\x00\xFF\xFF",
+    );
+    case(
+        b"cut off, and a second without a first after it",
+        b"ORD\x01\x00\x01\x03\x00\x02\x01\x00\xFF\xFF\x00\x02\x02\x00\xFF\xFF\x00\x01\x01\x00\xFF\x00",
+    );
+}
+
+// Plain nodes of one routine in a ring, as many as a listing may have, under a heading of version 1 that says n.
 fn put_plain(out: &mut [u8; TOO_LONG], n: u8)
     ensures { λ _. ⌜ recordAt (NODES + 1) ≡ length (now (out .exit)) ⌝ }
 {
     listing::put_heading(&mut *out, 1, 1, n);
     let mut i: usize = 0;
     while i < Listing::NODES {
+        let next = (i + 1) % Listing::NODES;
         listing::put_record(
             &mut *out,
             i,
             0,
             listing::PLAIN,
             0,
-            listing::NONE,
+            next as u8,
             listing::NONE,
         );
         i += 1;
@@ -191,6 +224,7 @@ fn main() {
     versions();
     successors();
     two_records();
+    entries();
     case(
         b"case A",
         b"ORD\x01\x00\x02\x04\x00\x02\x01\x00\x01\xFF\x00\x01\x02\x00\xFF\xFF\x01\x02\x02\x00\x03\xFF\x01\x01\x01\x00\xFF\xFF",

@@ -1,7 +1,8 @@
 // The exported services, on numbers and byte slices: each hands over to the proved service and gives its answer as four numbers.
 ghost use mathlib.Core.Path.{_≡_};
-ghost use Rattle.listing.specs.Read.{readSays, readOf};
+ghost use Rattle.listing.specs.Form.{readSays};
 ghost use Rattle.listing.specs.Answer as paper;
+ghost use Rattle.reader.specs.Read.{readOf};
 ghost use Rattle.verdict.specs.Judging.{judgeSays, JudgePromise};
 ghost use Rattle.patch.specs.Patching.{JudgePatchPromise, proposeSays, ProposePromise, writeSays, WritePromise};
 ghost use Rattle.text.specs.Typing.{typedSays, Typed};
@@ -108,7 +109,7 @@ fn of_typed(answer: TypedAnswer) -> Answer
 pub extern "C" fn nyekushiro_read(bytes: &[u8]) -> Answer
     ensures { λ r. ⌜ said r ≡ readOf (now (bytes .entry)) ⌝ }
 {
-    of_read(listing::read(bytes))
+    of_read(reader::read(bytes))
 }
 
 #[no_mangle]

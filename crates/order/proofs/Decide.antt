@@ -13,10 +13,10 @@ use Rattle.order.specs.Walks.{kindAt, locAt, isAccess, countsRmw, Access
 use Rattle.order.specs.Chains.{meets, surely, Ends, IsPair, Chain}
 use Rattle.order.specs.Need.{question, Entry, need, leave, leaveUnlessRmw, entry, RmwInside, Says, Needs, bars, Unbarred}
 use Rattle.order.specs.Verdict.{Fails}
-use Rattle.listing.proofs.Bools.{both, both→, T?}
+use Rattle.listing.proofs.Bools.{both, both→}
 use Rattle.order.proofs.Lists.{all-in, in-all, in-left, in-right, Cut, cut, row-join, row-before, row-after, row-map}
 use Rattle.order.proofs.Lists.{keep, in-keep, keep-in, some-in, in-some, upto, in-upto}
-use Rattle.order.proofs.Tests.{eqb-checked, ltb-checked, both-checked, one-checked}
+use Rattle.order.proofs.Tests.{eqb-checked, ltb-checked, both-checked, one-checked, decided}
 use Rattle.order.proofs.Laws.{ends-eq, access-in, walk-in}
 use Rattle.order.proofs.Rounds.{shorten}
 use Rattle.order.proofs.Search.{hits, Good, hits-sound, hits-complete}
@@ -66,7 +66,7 @@ succ-checked L a b = (λ t. let h = parts .0 t in (h .0, h .1 .0, h .1 .1), λ s
 abbrev pub walk? : Listing → (ℕ → Bool) → ℕ → ℕ → Bool
 walk? L ok a b = hits (upto (length L)) ok (succ? L) (length (upto (length L))) a b
 
-walk-sound : (L : Listing) (ok : ℕ → Bool) (a b : ℕ) → T (walk? L ok a b) → (xs : List ℕ) × Walk L a xs b × All (λ x. T (ok x)) xs
+pub walk-sound : (L : Listing) (ok : ℕ → Bool) (a b : ℕ) → T (walk? L ok a b) → (xs : List ℕ) × Walk L a xs b × All (λ x. T (ok x)) xs
 walk-sound L ok a b t =
     let f = hits-sound (upto (length L)) ok (succ? L) (length (upto (length L))) a b t in (
       f .0,
@@ -74,7 +74,7 @@ walk-sound L ok a b t =
       in-all (λ x. T (ok x)) (f .0) (λ x i. all-in (Good (upto (length L)) ok (succ? L)) (f .0) (f .2) x i .1),
     )
 
-walk-complete : (L : Listing) (ok : ℕ → Bool) (a b : ℕ) (xs : List ℕ) → Walk L a xs b → All (λ x. T (ok x)) xs → T (walk? L ok a b)
+pub walk-complete : (L : Listing) (ok : ℕ → Bool) (a b : ℕ) (xs : List ℕ) → Walk L a xs b → All (λ x. T (ok x)) xs → T (walk? L ok a b)
 walk-complete L ok a b xs w g =
     hits-complete (upto (length L)) ok (succ? L) ℕ-discrete a b xs (row-map (Succ L) (λ x y. T (succ? L x y)) (λ x y. succ-checked L x y .1) a xs b w)
     (in-all (Good (upto (length L)) ok (succ? L)) xs (λ x i. (in-upto (length L) x (walk-in L a xs b w x (inr i)), all-in (λ x. T (ok x)) xs g x i)))
@@ -82,7 +82,7 @@ walk-complete L ok a b xs w g =
 abbrev pub any? : {A : Type 0} → A → Bool
 any? x = true
 
-any-all : (xs : List ℕ) → All (λ x. T (any? x)) xs
+pub any-all : (xs : List ℕ) → All (λ x. T (any? x)) xs
 any-all xs = in-all (λ x. T (any? x)) xs (λ x i. tt)
 
 -- ── Pairs ───────────────────────────────────────────────────────────────────
@@ -249,8 +249,4 @@ module _ (q : ℕ) (L : Listing) (p : Ends) where
 
 -- FAILING IS DECIDED
 pub failing? : (q : ℕ) (L : Listing) (a b : ℕ) → Dec (Fails q L a b)
-failing? q L a b = go (T? (fails? q L (a, b)))
-  where
-    go : Dec (T (fails? q L (a, b))) → Dec (Fails q L a b)
-    go (yes t) = yes (fails-sound q L (a, b) t)
-    go (no n) = no (λ f. n (fails-complete q L (a, b) f))
+failing? q L a b = decided (fails? q L (a, b)) (fails-sound q L (a, b), fails-complete q L (a, b))

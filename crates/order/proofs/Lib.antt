@@ -23,6 +23,7 @@ pub mod Orders
 pub mod Unique
 pub mod Search
 pub mod Decide
+pub mod Entering
 pub mod Check
 pub mod Exists
 pub mod Cases

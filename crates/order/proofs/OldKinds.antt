@@ -12,8 +12,8 @@ use borrow.Author.Tests.{ne-eqb}
 use Rattle.listing.specs.Kinds.{kindsOf, ACQUIRE, RELEASE, LOAD-FENCE, STORE-FENCE, ACQUIRE-PC}
 use Rattle.listing.specs.Node.{Node, blank, Listing}
 use Rattle.listing.specs.Bytes.{versionOf, nodesOf}
-use Rattle.listing.specs.Read.{Admitted}
-use Rattle.listing.proofs.Valid.{admitted-valid}
+use Rattle.listing.specs.Form.{Formed}
+use Rattle.listing.proofs.Valid.{formed-valid}
 use Rattle.listing.proofs.Bools.{neither-or, lacks-and}
 use Rattle.order.specs.Walks.{kindAt, isAccess, isFence}
 use Rattle.order.specs.Need.{Entry, need, leave, allButWriteRead, keptByArmv8, entry}
@@ -25,12 +25,12 @@ use Rattle.order.proofs.Lists.{all-in, in-all}
 abbrev pub Old : Listing → Type 0
 Old L = (a : ℕ) → kindAt L a < kindsOf 1
 
--- a listing of version 1 that is admitted has no other
-pub admitted-old : (s : List ℕ) → Admitted s → versionOf s ≡ 1 → Old (nodesOf s)
-admitted-old s h e a = go (decLt a (length (nodesOf s)))
+-- a listing of version 1 whose form is right has no other
+pub formed-old : (s : List ℕ) → Formed s → versionOf s ≡ 1 → Old (nodesOf s)
+formed-old s h e a = go (decLt a (length (nodesOf s)))
   where
     go : Dec (a < length (nodesOf s)) → kindAt (nodesOf s) a < kindsOf 1
-    go (yes l) = subst (λ (v : ℕ). kindAt (nodesOf s) a < kindsOf v) e (admitted-valid s h a l .kind)
+    go (yes l) = subst (λ (v : ℕ). kindAt (nodesOf s) a < kindsOf v) e (formed-valid s h a l .kind)
     go (no l) = subst (λ (n : Node). n .kind < kindsOf 1) (sym (List·getD-eq-default (nodesOf s) blank (omega arith))) (omega arith)
 
 -- none of these is one of version 2's

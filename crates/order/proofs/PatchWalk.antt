@@ -74,6 +74,10 @@ module _ (L : Listing) (ms : Marks) where
       go (inl e) v = (fenceOf L ms a ∷ c ∷ v .0, along-through a c b xs (v .0) (w .0) (v .1) e)
       go (inr e) v = (c ∷ v .0, along-past a c b xs (v .0) (w .0) (v .1) e)
 
+  -- every old walk is there, with the fences that it passes
+  pub patched-walk : (a : ℕ) (xs : List ℕ) (b : ℕ) → Walk L a xs b → (ys : List ℕ) × Walk (patched L ms) a ys b
+  patched-walk a xs b w = let v = along-old xs a b w in (v .0, v .1 .new)
+
   old-access : (a : ℕ) → Access (patched L ms) a → a < length L
   old-access a t = go (decLt a (length L))
     where

@@ -2,7 +2,7 @@
 use mathlib.Core.Path.{_≡_}
 use mathlib.Core.Logic.{_↔_, _⊎_, ⊎-map}
 use mathlib.Core.List.{List, [], _∷_}
-use mathlib.Core.Bool.{Bool, not, _&&_, _||_}
+use mathlib.Core.Bool.{Bool, true, false, not, _&&_, _||_}
 use Prim.Native.Nat.{ℕ, _<_}
 use lib.Dec.{T, eqb, ltb, ltb→lt, lt→ltb, eqb→eq, T-not, not-T}
 use Rattle.order.specs.Rows.{All}
@@ -23,6 +23,11 @@ one-checked a b e f = (λ t. ⊎-map (e .0) (f .0) (one→ a b t), λ h. one a b
 
 pub not-checked : {X : Type 0} (a : Bool) → T a ↔ X → T (not a) ↔ (X → ⊥)
 not-checked a e = (λ t x. T-not a t (e .1 x), λ n. not-T a (λ t. n (e .0 t)))
+
+-- such a test decides; whether it is yes or no is the test alone
+abbrev pub decided : {X : Type 0} (b : Bool) → T b ↔ X → Dec X
+decided true e = yes (e .0 tt)
+decided false e = no (e .1)
 
 -- A TEST OF EVERY ENTRY
 pub every-checked : {A : Type 0} (t : A → Bool) (P : A → Type 0) → ((x : A) → T (t x) ↔ P x) → (xs : List A) → T (every t xs) ↔ All P xs

@@ -1,5 +1,6 @@
 pub mod Rows
 pub mod Walks
+pub mod Entered
 pub mod Chains
 pub mod Need
 pub mod Verdict

@@ -11,17 +11,17 @@ use Rattle.listing.specs.Limits.{NODES}
 use Rattle.listing.specs.Node.{Listing}
 use Rattle.listing.specs.Bytes.{versionOf, countF, countN, nodesOf}
 use Rattle.listing.specs.Rules.{Refusal, passed, refused, firstOf}
-use Rattle.listing.specs.Read.{readRules, Admitted}
 use Rattle.listing.specs.Answer.{Answer, refusal}
 use Rattle.listing.proofs.Nodes.{nodes-length}
 use Rattle.listing.proofs.Table.{pass, stop, pass-first, pass-then}
-use Rattle.listing.proofs.Valid.{admitted-valid}
 use Rattle.order.specs.Verdict.{Robust, Verdict, robust, opened, Judged}
 use Rattle.order.specs.Steps.{Ordered}
 use Rattle.order.specs.Patched.{places, patched}
 use Rattle.order.proofs.Patch.{Links, length-patched}
 use Rattle.order.proofs.PatchFails.{accepted, acceptance-monotone}
 use Rattle.order.proofs.DemandThree.{robust-ordered, ordered-robust}
+use Rattle.reader.specs.Read.{readRules, Admitted}
+use Rattle.reader.proofs.Admitted.{admitted-valid}
 use Rattle.fencing.specs.Marks.{marksOf}
 use Rattle.fencing.specs.Inner.MapFits.{MapFits}
 use Rattle.fencing.proofs.Marks.{mapped}

@@ -1,4 +1,4 @@
--- The table of judging with a map, check by check: 1, then 2 to 15, then 16, then nothing.
+-- The table of judging with a map, check by check: 1, then the listing and the map, then 16, then nothing.
 use mathlib.Core.Path.{_≡_, refl, sym, _∙_, subst}
 use mathlib.Core.Bool.{true, false}
 use mathlib.Core.List.{List, _++_}

@@ -10,11 +10,11 @@ use Rattle.listing.specs.Limits.{NODES}
 use Rattle.listing.specs.Node.{Listing}
 use Rattle.listing.specs.Bytes.{countN, nodesOf}
 use Rattle.listing.specs.Rules.{Rule, rule, passed, refused, firstOf}
-use Rattle.listing.specs.Read.{readRules, Admitted}
 use Rattle.listing.proofs.Table.{pass, stop, pass-first, pass-then, none-applies}
-use Rattle.listing.proofs.Reading.{admitted-whole}
 use Rattle.listing.proofs.Stores.{next}
 use Rattle.order.specs.Patched.{Marks, places, patched}
+use Rattle.reader.specs.Read.{readRules, Admitted}
+use Rattle.reader.proofs.Admitted.{admitted-whole}
 use Rattle.fencing.specs.Marks.{marksOf}
 use Rattle.fencing.specs.Inner.MapFits.{MapFits}
 use Rattle.verdict.proofs.Refusing.{row-applies, row-passes}

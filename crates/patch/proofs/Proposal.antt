@@ -9,12 +9,12 @@ use lib.ListN.{length, take, drop}
 use lib.Seq.{take-at}
 use Rattle.listing.specs.Bytes.{countN, nodesOf}
 use Rattle.listing.specs.Rules.{Refusal, passed, refused, firstOf}
-use Rattle.listing.specs.Read.{readRules}
 use Rattle.listing.specs.Answer.{Answer, done, filled}
 use Rattle.listing.proofs.Nodes.{nodes-length}
 use Rattle.listing.proofs.Table.{pass, pass-first, pass-then, none-applies}
 use Rattle.order.specs.Patched.{Marks, marked}
 use Rattle.order.specs.Proposed.{Proposed}
+use Rattle.reader.specs.Read.{readRules}
 use Rattle.fencing.specs.Marks.{marksOf}
 use Rattle.verdict.specs.Judging.{questionRules, bufferRules, CHAIN}
 use Rattle.verdict.proofs.Refusing.{buffer-passes}

@@ -9,10 +9,10 @@ use Rattle.listing.specs.Node.{Listing}
 use Rattle.listing.specs.Bytes.{nodesOf}
 use Rattle.listing.specs.Rules.{Rule, Refusal, passed, refused, firstOf}
 use Rattle.listing.specs.Inner.Numbered.{orElse}
-use Rattle.listing.specs.Read.{readRules}
 use Rattle.listing.specs.Answer.{Answer, done, filled}
 use Rattle.listing.proofs.Table.{none-applies, firstOf-append, pass, pass-first, pass-then}
 use Rattle.order.specs.Patched.{patched}
+use Rattle.reader.specs.Read.{readRules}
 use Rattle.fencing.specs.Marks.{marksOf}
 use Rattle.fencing.specs.Written.{Written}
 use Rattle.fencing.proofs.Written.{written}

@@ -6,10 +6,10 @@ use Prim.Native.Nat.{ℕ, _+_, _≤_}
 use Rattle.listing.specs.Limits.{NODES}
 use Rattle.listing.specs.Bytes.{countN, nodesOf}
 use Rattle.listing.specs.Rules.{Rule, passed, firstOf}
-use Rattle.listing.specs.Read.{readRules}
 use Rattle.listing.specs.Answer.{Answer, done}
 use Rattle.order.specs.Verdict.{Fails}
 use Rattle.order.specs.Patched.{Marks, marked, places}
+use Rattle.reader.specs.Read.{readRules}
 use Rattle.fencing.specs.Marks.{marksOf}
 use Rattle.verdict.specs.Judging.{questionRules, bufferRules, CHAIN}
 use Rattle.patch.specs.Patching.{mapRules}

@@ -8,10 +8,10 @@ use lib.Dec.{eqb, ltb}
 use Rattle.listing.specs.Limits.{NODES}
 use Rattle.listing.specs.Bytes.{versionOf, countF, countN, recordAt, nodesOf, bytesOf}
 use Rattle.listing.specs.Rules.{Rule, rule, Refusal, passed, refused, firstOf}
-use Rattle.listing.specs.Read.{readRules}
 use Rattle.listing.specs.Answer.{Answer, done, refusal, filled}
 use Rattle.order.specs.Patched.{Marks, places, patched}
 use Rattle.order.specs.Proposed.{Proposed}
+use Rattle.reader.specs.Read.{readRules}
 use Rattle.verdict.specs.Judging.{questionRules, bufferRules, CHAIN, Judging}
 use Rattle.fencing.specs.Marks.{marksOf}
 use Rattle.patch.specs.declared.ProposeAnswer.{ProposeAnswer}
@@ -33,7 +33,7 @@ mapRules s map = rule (not (eqb (length map) (countN s))) 13 0 ∷ byteRules 0 m
 abbrev pub fitRules : List ℕ → Marks → List Rule
 fitRules s ms = rule (ltb NODES (countN s + places ms)) 15 0 ∷ []
 
--- what is refused of a listing with its map: 2 to 12, then 13 to 15
+-- what is refused of a listing with its map: 2 to 12 and 18, then 13 to 15
 unfoldable pub patchRules : List ℕ → List ℕ → List Rule
 patchRules s map = readRules s ++ (mapRules s map ++ fitRules s (marksOf map))
 
@@ -60,7 +60,7 @@ abbrev pub mapBytes : Marks → List ℕ
 mapBytes [] = []
 mapBytes (m ∷ ms) = mapByte m ∷ mapBytes ms
 
--- what is refused before there is a map to write: 1, then 2 to 12
+-- what is refused before there is a map to write: 1, then 2 to 12 and 18
 unfoldable pub askRules : ℕ → List ℕ → List Rule
 askRules q s = questionRules q ++ readRules s
 

@@ -78,11 +78,11 @@ fn check_map(bytes: &[u8], map: &[u8]) -> Checked
     Checked::Passed
 }
 
-// Rules 2 to 15: the listing's, and then its map's.
+// Rules 2 to 12 and 18, the listing's, and then 13 to 15, its map's.
 pub fn check(bytes: &[u8], map: &[u8]) -> Checked
     ensures { λ r. ⌜ checked r ≡ firstOf (patchRules (now (bytes .entry)) (now (map .entry))) ⌝ }
 {
-    match listing::read(bytes) {
+    match reader::read(bytes) {
         ReadAnswer::Refused { number, place } => Checked::Refused { number, place },
         ReadAnswer::Good(_) => check_map(bytes, map),
     }
@@ -99,7 +99,7 @@ fn judge_checked(question: u8, bytes: &[u8], map: &[u8], chain: &mut [u8]) -> Ju
     verdict::decide(question, &written[..length], chain)
 }
 
-// The verdict of the listing with the map's fences put in, in the old node numbers, or the first of the refusals 1 to 16 that applies.
+// The verdict of the listing with the map's fences put in, in the old node numbers, or the first of the refusals 1 to 12, 18 and 13 to 16 that applies.
 pub fn judge_patch(question: u64, bytes: &[u8], map: &[u8], chain: &mut [u8]) -> JudgeAnswer
     ensures { λ r. ⌜ JudgePatchPromise question (now (bytes .entry)) (now (map .entry)) (now (chain .entry)) (now (chain .exit)) (judgeSays r) ⌝ }
 {
@@ -141,7 +141,7 @@ fn write_checked(bytes: &[u8], map: &[u8], out: &mut [u8]) -> WriteAnswer
     WriteAnswer::Written { length }
 }
 
-// The patched listing, at the start of `out`, or the first of the refusals 2 to 16 that applies.
+// The patched listing, at the start of `out`, or the first of the refusals 2 to 12, 18 and 13 to 16 that applies.
 pub fn write(bytes: &[u8], map: &[u8], out: &mut [u8]) -> WriteAnswer
     ensures { λ r. ⌜ WritePromise (now (bytes .entry)) (now (map .entry)) (now (out .entry)) (now (out .exit)) (writeSays r) ⌝ }
 {

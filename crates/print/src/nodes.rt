@@ -84,7 +84,7 @@ fn nodes(bytes: &[u8])
 
 // A line a node, or why the listing is refused.
 pub fn shown(bytes: &[u8]) {
-    match listing::read(bytes) {
+    match reader::read(bytes) {
         ReadAnswer::Refused { number, place } => explained(number, place),
         ReadAnswer::Good(_) => nodes(bytes),
     }

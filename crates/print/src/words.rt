@@ -22,8 +22,15 @@ pub fn reason(number: u8) {
         14 => text(b"map byte not 0 or 1"),
         15 => text(b"N + places over 128"),
         16 => text(b"lent output buffer too short"),
-        _ => text(b"bad text"),
+        17 => text(b"bad text"),
+        _ => text(b"node neither its routine's entry nor reached from it"),
     }
+}
+
+fn node(place: usize) {
+    text(b" (node");
+    next(place);
+    text(b")");
 }
 
 // What a refusal's place is of, where it has one.
@@ -34,13 +41,15 @@ fn place_of(number: u8, place: usize) {
         text(b")");
         return;
     }
+    if number == 18 {
+        node(place);
+        return;
+    }
     if number < 8 {
         return;
     }
     if number < 13 {
-        text(b" (node");
-        next(place);
-        text(b")");
+        node(place);
     }
 }
 

@@ -8,10 +8,10 @@ use lib.ListN.{length, getD}
 use Rattle.listing.specs.Limits.{NODES}
 use Rattle.listing.specs.Bytes.{countN}
 use Rattle.listing.specs.Rules.{Refusal, passed, refused, firstOf}
-use Rattle.listing.specs.Read.{readRules, Admitted}
 use Rattle.listing.specs.Answer.{Answer, done, refusal, filled}
 use Rattle.listing.proofs.Table.{pass, stop}
 use Rattle.order.specs.Patched.{places}
+use Rattle.reader.specs.Read.{readRules, Admitted}
 use Rattle.fencing.specs.Marks.{isMark, marksOf}
 use Rattle.verdict.specs.Judging.{wrongQuestion, bufferRules}
 use Rattle.verdict.proofs.Refusing.{question-stops, question-passes, buffer-stops, buffer-passes}
@@ -70,9 +70,9 @@ module _ (q : ℕ) (s old new : List ℕ) where
   unfolding askRules
   ask-1 w e = asked-as (refusal 1 0) (refused 1 0) (question-stops q (readRules s) w) (refl, e)
 
-  pub ask-2-12 : (k p : ℕ) → wrongQuestion q ≡ false → firstOf (readRules s) ≡ refused k p → new ≡ old → ProposePromise q s old new (refusal k p)
+  pub ask-listing : (k p : ℕ) → wrongQuestion q ≡ false → firstOf (readRules s) ≡ refused k p → new ≡ old → ProposePromise q s old new (refusal k p)
   unfolding askRules
-  ask-2-12 k p w h e = asked-as (refusal k p) (refused k p) (question-passes q (readRules s) w ∙ h) (refl, e)
+  ask-listing k p w h e = asked-as (refusal k p) (refused k p) (question-passes q (readRules s) w ∙ h) (refl, e)
 
   pub ask-passes : (r : Answer) → wrongQuestion q ≡ false → Admitted s → Proposing passed q s old new r → ProposePromise q s old new r
   unfolding askRules

@@ -79,7 +79,7 @@ fn propose_for(question: u8, bytes: &[u8], map: &mut [u8]) -> ProposeAnswer
     offer(bytes, &marks[..n], map)
 }
 
-// A map, or the first of the refusals 1 to 12, 15 and 16 that applies.
+// A map, or the first of the refusals 1 to 12, 18, 15 and 16 that applies.
 pub fn propose(question: u64, bytes: &[u8], map: &mut [u8]) -> ProposeAnswer
     ensures { λ r. ⌜ ProposePromise question (now (bytes .entry)) (now (map .entry)) (now (map .exit)) (proposeSays r) ⌝ }
 {
@@ -89,7 +89,7 @@ pub fn propose(question: u64, bytes: &[u8], map: &mut [u8]) -> ProposeAnswer
             place: 0,
         };
     }
-    match listing::read(bytes) {
+    match reader::read(bytes) {
         ReadAnswer::Refused { number, place } => ProposeAnswer::Refused { number, place },
         ReadAnswer::Good(_) => propose_for(question as u8, bytes, map),
     }

@@ -1,4 +1,4 @@
--- The bits of a word: of `or` and `and`, of one hot bit, and of a word that is not 0.
+-- The bits of a word: of `or`, `and` and `xor`, of one hot bit, and of a word that is not 0.
 use mathlib.Core.Path.{_≡_, refl, sym, ap, _∙_}
 use Prim.Native.Nat.{ℕ, zero, suc, _+_, _-_, _*_, _/_, _%_, _^_, _≤_, _<_, min, max}
 use native.Mathlib.Nat.{one-mul, pow-suc, div-eq-of-lt, mul-mod-left, lt-of-lt-of-le, lt-of-le-of-lt}
@@ -7,7 +7,7 @@ use native.Mathlib.Numerals.{one-add}
 use native.Mathlib.Decide.{decLt}
 use lib.Pow.{pow-pos, pow-lt, pow-mono, pow-add, shl-exact, shl-shr, shr-shr, shr-le}
 use lib.Count.{trailingZeros, under}
-use lib.Bits.{bitOr, bitAnd, or-step, or-shr, and-step, and-shr, and-lt}
+use lib.Bits.{bitOr, bitAnd, bitXor, differ, or-step, or-shr, and-step, and-shr, xor-step, xor-shr, and-lt}
 use Rattle.rows.specs.Inner.Rows.{bit, IsSet}
 use Rattle.rows.specs.Inner.Least.{Least}
 
@@ -28,6 +28,36 @@ bit-and x y i = rw and-shr (low-and (x / 2 ^ i) (y / 2 ^ i))
 pub bit-le : (x i : ℕ) → bit x i ≤ 1
 unfolding bit
 bit-le x i = omega arith
+
+-- what x has and y has not
+abbrev pub bitLess : ℕ → ℕ → ℕ
+bitLess x y = bitXor x (bitAnd x y)
+
+low-xor : (x y : ℕ) → bitXor x y % 2 ≡ differ (x % 2) (y % 2)
+low-xor x y = let h = differ-le (x % 2) (y % 2) (omega arith) (omega arith) in omega (arith, xor-step x y)
+  where
+    differ-le : (p q : ℕ) → p ≤ 1 → q ≤ 1 → differ p q ≤ 1
+    differ-le zero q hp hq = hq
+    differ-le (suc p) zero hp hq = hp
+    differ-le (suc p) (suc q) hp hq = let e : p ≡ 0 = omega arith in rw e (omega arith)
+
+bit-xor : (x y i : ℕ) → bit (bitXor x y) i ≡ differ (bit x i) (bit y i)
+unfolding bit
+bit-xor x y i = rw xor-shr (low-xor (x / 2 ^ i) (y / 2 ^ i))
+
+pub bit-less : (x y i : ℕ) → bit (bitLess x y) i ≡ bit x i - bit y i
+bit-less x y i =
+    bit-xor x (bitAnd x y) i ∙ ap (differ (bit x i)) (bit-and x y i) ∙ of (bit x i) (bit y i) (bit-le x i) (bit-le y i)
+  where
+    of : (p q : ℕ) → p ≤ 1 → q ≤ 1 → differ p (min p q) ≡ p - q
+    of zero q hp hq = omega arith
+    of (suc p) q hp hq =
+        let e : p ≡ 0 = omega arith in
+        rw e (one q hq)
+      where
+        one : (q : ℕ) → q ≤ 1 → differ 1 (min 1 q) ≡ 1 - q
+        one zero h = refl
+        one (suc r) h = let e : r ≡ 0 = omega arith in rw e refl
 
 -- ---- one bit
 

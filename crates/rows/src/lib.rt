@@ -6,6 +6,7 @@ ghost use Rattle.rows.specs.Inner.Least.{Least};
 ghost use Rattle.rows.specs.Inner.Rows.{Tells, Vouches, IsSet, lowWord, highWord, withWords, Has, Blank, Meet};
 ghost use Rattle.rows.specs.Inner.Touched.{
   Added,
+  Removed,
   Poured,
   Sifted,
   Emptied,
@@ -36,6 +37,16 @@ pub fn put(w: &mut [u64], a: usize, b: usize)
 {
     let i = 2 * a + b / 64;
     w[i] = w[i] | (1u64 << (b % 64));
+}
+
+// Takes b out of row a.
+pub fn take_out(w: &mut [u64], a: usize, b: usize)
+    requires { ⌜ (2 * a + 1 < length (now w)) × (b < 128) ⌝ }
+    ensures { λ _. ⌜ Removed (now (w .entry)) (now (w .exit)) a b ⌝ }
+{
+    let i = 2 * a + b / 64;
+    let x = w[i];
+    w[i] = x ^ (x & (1u64 << (b % 64)));
 }
 
 // The low word of row a.

@@ -5,7 +5,7 @@ use Prim.Native.Nat.{ℕ}
 use Rattle.listing.specs.Node.{Listing}
 use Rattle.listing.specs.Bytes.{nodesOf}
 use Rattle.listing.specs.Rules.{Refusal, passed, firstOf}
-use Rattle.listing.specs.Read.{
+use Rattle.listing.specs.Form.{
   wrongMark,
   wrongF,
   headingRules,
@@ -16,14 +16,16 @@ use Rattle.listing.specs.Read.{
   wrongSuccessor,
   wrongOrder,
   nodeRules,
-  readRules,
+  formRules,
 }
+use Rattle.order.proofs.Entering.{entered?}
 use Rattle.order.specs.Verdict.{Verdict, opened, Judged}
 use Rattle.order.specs.Cases.{caseA}
 use Rattle.order.proofs.Check.{checked}
 use Rattle.verdict.specs.Judging.{wrongQuestion}
 use Rattle.patch.specs.Patching.{askRules}
 use Rattle.listing.specs.Ascii.{bytes}
+use Rattle.reader.specs.Read.{dead, readRules}
 use Rattle.lines.specs.Text.{decimal}
 use Rattle.say.specs.Lines.{verdictLine, JudgedLine, JudgeLine}
 
@@ -45,7 +47,8 @@ unfolding decimal
 words = refl
 
 pub admitted : firstOf (askRules 1 listing) ≡ passed
-unfolding askRules wrongQuestion readRules headingRules wrongMark wrongF nodeRules wrongRoutine wrongKind wrongLocation wrongSuccessor astray wrongOrder
+unfolding askRules wrongQuestion nodesOf readRules dead entered? formRules headingRules
+    wrongMark wrongF nodeRules wrongRoutine wrongKind wrongLocation wrongSuccessor astray wrongOrder
 admitted = refl
 
 pub nodes : nodesOf listing ≡ caseA

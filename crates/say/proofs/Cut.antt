@@ -14,9 +14,10 @@ use Rattle.listing.specs.Kinds.{isVersion}
 use Rattle.listing.specs.Node.{Listing}
 use Rattle.listing.specs.Bytes.{byte, versionOf, countN, recordAt, nodesOf}
 use Rattle.listing.specs.Rules.{Rule, Refusal, passed, refused, firstOf}
-use Rattle.listing.specs.Read.{wrongMark, wrongF, headingRules, nodesRules, readRules}
+use Rattle.listing.specs.Form.{wrongMark, wrongF, headingRules, nodesRules, formRules}
 use Rattle.listing.specs.Inner.Numbered.{orElse}
 use Rattle.listing.proofs.Table.{firstOf-append}
+use Rattle.reader.specs.Read.{deadRules, readRules}
 use Rattle.verdict.specs.Judging.{questionRules}
 use Rattle.patch.specs.Patching.{askRules}
 use Rattle.say.specs.Lines.{JudgedLine, JudgeLine, ProposedLine, ProposeLine, INPUT}
@@ -78,13 +79,18 @@ front a d h =
     let at : (i : ℕ) → i < HEADING → byte (a ++ d) i ≡ byte a i = λ i k. List·getD-append a d 0 i (omega (arith, h, k)) in
     rw (at 0 (omega arith), at 1 (omega arith), at 2 (omega arith), at 3 (omega arith), at 4 (omega arith), at 5 (omega arith), at 6 (omega arith)) refl
 
+-- and no rule that follows
+before : (s : List ℕ) (first rest : List Rule) → firstOf first ≡ refusalOf s → firstOf (first ++ rest) ≡ refusalOf s
+before s first rest e =
+    firstOf-append first rest
+    ∙ ap (λ (x : Refusal). orElse x (firstOf rest)) e
+    ∙ nothing-follows (refusalOf s) (firstOf rest) (refuses s)
+
 listing-refused : (s : List ℕ) → recordAt NODES < length s → firstOf (readRules s) ≡ refusalOf s
-unfolding readRules
+unfolding readRules formRules
 listing-refused s h =
-    let nodes = nodesRules s 0 (countN s) in
-    firstOf-append (headingRules s) nodes
-    ∙ ap (λ (x : Refusal). orElse x (firstOf nodes)) (heading s h)
-    ∙ nothing-follows (refusalOf s) (firstOf nodes) (refuses s)
+    before s (headingRules s ++ nodesRules s 0 (countN s)) (deadRules (nodesOf s) 0 (countN s))
+    (before s (headingRules s) (nodesRules s 0 (countN s)) (heading s h))
 
 asked-refused : (q : ℕ) (s : List ℕ) → recordAt NODES < length s → firstOf (askRules q s) ≡ orElse (firstOf (questionRules q)) (refusalOf s)
 unfolding askRules

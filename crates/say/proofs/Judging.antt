@@ -8,12 +8,12 @@ use lib.ListN.{length, drop}
 use Rattle.listing.specs.Node.{Listing}
 use Rattle.listing.specs.Bytes.{byte, nodesOf}
 use Rattle.listing.specs.Rules.{Rule, Refusal, passed, refused, firstOf}
-use Rattle.listing.specs.Read.{readRules}
 use Rattle.listing.specs.Answer.{filled}
 use Rattle.listing.specs.Inner.Numbered.{orElse}
 use Rattle.listing.proofs.Table.{firstOf-append}
 use Rattle.order.specs.Chains.{Ends}
 use Rattle.order.specs.Verdict.{Verdict, robust, opened}
+use Rattle.reader.specs.Read.{readRules}
 use Rattle.verdict.specs.declared.JudgeAnswer.{JudgeAnswer}
 use Rattle.verdict.specs.declared.JudgeAnswer.the-variants.{Robust, Open, Refused}
 use Rattle.verdict.specs.Judging.{questionRules, bufferRules, CHAIN, judgeRules, judgeSays, chainBytes, verdictSays, verdictBytes, Judging, JudgePromise}

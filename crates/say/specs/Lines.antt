@@ -56,7 +56,7 @@ abbrev pub JudgedLine : Refusal → ℕ → Listing → List ℕ → Type 0
 JudgedLine passed q L line = (v : Verdict) × Judged q L v × (line ≡ verdictLine v)
 JudgedLine (refused k p) q L line = line ≡ refusalLine k p
 
--- "one byte for the question, then the listing; empty input is refusal 1"; else refused by 1, then 2 to 12 (askRules)
+-- "one byte for the question, then the listing; empty input is refusal 1"; else refused by 1, then 2 to 12 and 18 (askRules)
 abbrev pub JudgeLine : List ℕ → List ℕ → Type 0
 JudgeLine [] line = line ≡ refusalLine 1 0
 JudgeLine (q ∷ s) line = JudgedLine (firstOf (askRules q s)) q (nodesOf s) line

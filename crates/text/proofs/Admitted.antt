@@ -6,15 +6,15 @@ use Prim.Native.Nat.{ℕ, _+_, _<_, _≤_}
 use native.Mathlib.Omega.{arith}
 use Rattle.listing.specs.Limits.{NODES}
 use Rattle.listing.specs.Node.{Node, none, node, blank}
-use Rattle.listing.specs.Read.{Admitted}
 use Rattle.listing.specs.Valid.{Goes, NodeOk, Valid}
-use Rattle.listing.proofs.Valid.{valid-admitted}
 use Rattle.words.specs.Words.{words}
 use Rattle.order.specs.Rows.{All}
+use Rattle.reader.specs.Read.{Admitted}
+use Rattle.reader.proofs.Admitted.{valid-admitted}
 use Rattle.grammar.specs.Tree.{Text, Block, part, wordsOf, blockSize, partsOf, sizeOf, nodesOf}
 use Rattle.grammar.specs.Stands.{TreeOf}
 use Rattle.text.specs.Typing.{listingOf}
-use Rattle.text.specs.Entered.{StartsWith}
+use Rattle.text.specs.Parted.{StartsWith}
 use Rattle.text.proofs.Every.{all-at}
 use Rattle.text.proofs.Said.{Said, all-said}
 use Rattle.text.proofs.Kinded.{Kinded, text-kinded}
@@ -22,6 +22,7 @@ use Rattle.text.proofs.Placed.{Leads, Placed}
 use Rattle.text.proofs.PartNodes.{part-of, begins-parts, begins-size, placed-at}
 use Rattle.text.proofs.Fits.{Fits}
 use Rattle.text.proofs.Counts.{text-count}
+use Rattle.text.proofs.Reached.{text-entered}
 
 module _ (t : Text) (few : sizeOf t ≤ NODES) {u : Text} {b : Block} (p : StartsWith t (part u b)) where
   -- a successor within the part is a node of its routine
@@ -57,3 +58,4 @@ unfolding words listingOf
 text-admitted s t room h f =
     let said = subst (All Said) (sym (h .words)) (all-said (words s)) in
     valid-admitted 1 (partsOf t) (nodesOf t) tt (f .some) (f .routines) (let c = text-count t in omega arith) (text-valid t (f .nodes) said)
+    (text-entered t (f .nodes))

@@ -10,7 +10,7 @@ use lib.Seq.{getD-append-add}
 use Rattle.listing.specs.Limits.{NODES}
 use Rattle.listing.specs.Node.{none, Listing, node, blank}
 use Rattle.grammar.specs.Tree.{Block, Text, nothing, part, blockSize, blockNodes, partsOf, sizeOf, nodesOf}
-use Rattle.text.specs.Entered.{StartsWith, whole, cut, PartsInRows}
+use Rattle.text.specs.Parted.{StartsWith, whole, cut, PartsInRows}
 use Rattle.text.proofs.Every.{all-at}
 use Rattle.text.proofs.Placed.{Among, Placed, part-placed}
 use Rattle.text.proofs.Counts.{block-count, text-count}

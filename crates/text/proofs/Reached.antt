@@ -1,5 +1,5 @@
--- Every node of a typed text is its routine's lowest-numbered node, or a walk leads to it from there.
-use mathlib.Core.Path.{_≡_, refl, sym, ap, _∙_, subst}
+-- Every node of a typed text is its routine's entry, or a walk leads to it from there.
+use mathlib.Core.Path.{_≡_, refl, sym, ap, _∙_}
 use mathlib.Core.Logic.{inl, inr}
 use mathlib.Core.List.{[], _∷_, _++_}
 use Prim.Native.Nat.{ℕ, _+_, _<_, _≤_}
@@ -9,12 +9,13 @@ use lib.ListN.{length}
 use Rattle.listing.specs.Limits.{NODES}
 use Rattle.listing.specs.Kinds.{PLAIN}
 use Rattle.listing.specs.Node.{Node, none, Listing, node}
-use Rattle.order.specs.Walks.{Next, Succ}
-use Rattle.order.proofs.Lists.{row-join}
+use Rattle.order.specs.Walks.{Next}
+use Rattle.order.specs.Entered.{EntryOf, Reached, AllEntered}
+use Rattle.order.proofs.Entering.{reached-join}
 use Rattle.grammar.specs.Tree.{Item, access, fence, loop, either, Block, one, also, Text, part, itemSize, blockSize, itemNodes, blockNodes}
 use Rattle.grammar.specs.Tree.{made, plain, partsOf, sizeOf, nodesOf}
 use Rattle.grammar.proofs.Sizes.{item-some, block-some}
-use Rattle.text.specs.Entered.{StartsWith, Lowest, Reached, Entered}
+use Rattle.text.specs.Parted.{StartsWith}
 use Rattle.text.proofs.Every.{of-plain}
 use Rattle.text.proofs.Placed.{Among}
 use Rattle.text.proofs.PartNodes.{Has, has-front, has-back, begins-size, part-of, part-has, placed-at, text-parted}
@@ -25,11 +26,6 @@ plain-next : (r a b : ℕ) → Next (plain r a b) a × Next (plain r a b) b
 plain-next r a b = of-plain (λ m. Next m a × Next m b) r a b (λ _. (inl refl, inr refl)) (λ _. (inr refl, inl refl))
 
 module _ (L : Listing) where
-  joined : {a b c : ℕ} → Reached L a b → Reached L b c → Reached L a c
-  joined {c = c} (inl e) s = subst (λ (x : ℕ). Reached L x c) (sym e) s
-  joined {a} (inr w) (inl e) = subst (Reached L a) e (inr w)
-  joined {a} {b} {c} (inr w) (inr v) = inr (w .0 ++ (b ∷ v .0), row-join (Succ L) a (w .0) b (v .0) c (w .1) (v .1))
-
   step : {a b : ℕ} → a < length L → b < length L → Next (node L a) b → Reached L a b
   step ha hb h = inr ([], (ha, hb, h))
 
@@ -54,14 +50,14 @@ module _ (L : Listing) where
       leads = rw e (plain-next r (n + 1) next)
 
       go : (x : ℕ) → n ≤ x → x < n + (b + 1) → Dec (n < x) → Reached L n x
-      go x p q (yes h) = joined (step (omega arith) (omega arith) (leads .0)) (w .all x (omega arith) (omega arith))
+      go x p q (yes h) = reached-join L (step (omega arith) (omega arith) (leads .0)) (w .all x (omega arith) (omega arith))
       go x p q (no h) = inl (omega arith)
 
   either-whole : (n r b c next : ℕ) → n + (b + c + 2) ≤ length L → 1 ≤ b → 1 ≤ c → node L n ≡ plain r (n + 1) (n + 1 + b)
       → Whole (n + 1) b (n + 1 + b + c) → Whole (n + 1 + b) c (n + 1 + b + c) → Whole (n + 1 + b + c) 1 next → Whole n (b + c + 2) next
   either-whole n r b c next fit sb sc e w v u = record {
     all = λ x p q. go x p q (decLt n x) (decLt x (n + 1 + b)) (decLt x (n + 1 + b + c));
-    ends = λ h. joined meet (u .ends h);
+    ends = λ h. reached-join L meet (u .ends h);
   }
     where
       leads : Next (node L n) (n + 1) × Next (node L n) (n + 1 + b)
@@ -71,20 +67,20 @@ module _ (L : Listing) where
       first = step (omega arith) (omega arith) (leads .0)
 
       meet : Reached L n (n + 1 + b + c)
-      meet = joined first (w .ends (omega arith))
+      meet = reached-join L first (w .ends (omega arith))
 
       go : (x : ℕ) → n ≤ x → x < n + (b + c + 2) → Dec (n < x) → Dec (x < n + 1 + b) → Dec (x < n + 1 + b + c) → Reached L n x
       go x p q (no h) d1 d2 = inl (omega arith)
-      go x p q (yes h) (yes k) d2 = joined first (w .all x (omega arith) k)
-      go x p q (yes h) (no k) (yes j) = joined (step (omega arith) (omega arith) (leads .1)) (v .all x (omega arith) j)
-      go x p q (yes h) (no k) (no j) = joined meet (u .all x (omega arith) (omega arith))
+      go x p q (yes h) (yes k) d2 = reached-join L first (w .all x (omega arith) k)
+      go x p q (yes h) (no k) (yes j) = reached-join L (step (omega arith) (omega arith) (leads .1)) (v .all x (omega arith) j)
+      go x p q (yes h) (no k) (no j) = reached-join L meet (u .all x (omega arith) (omega arith))
 
   also-whole : (n b i next : ℕ) → n + b < length L → Whole n b (n + b) → Whole (n + b) i next → Whole n (b + i) next
-  also-whole n b i next fit w v = record { all = λ x p q. go x p q (decLt x (n + b)); ends = λ h. joined (w .ends fit) (v .ends h) }
+  also-whole n b i next fit w v = record { all = λ x p q. go x p q (decLt x (n + b)); ends = λ h. reached-join L (w .ends fit) (v .ends h) }
     where
       go : (x : ℕ) → n ≤ x → x < n + (b + i) → Dec (x < n + b) → Reached L n x
       go x p q (yes h) = w .all x p h
-      go x p q (no h) = joined (w .ends fit) (v .all x (omega arith) (omega arith))
+      go x p q (no h) = reached-join L (w .ends fit) (v .all x (omega arith) (omega arith))
 
   mutual
     unfolding itemNodes blockNodes itemSize blockSize
@@ -122,8 +118,8 @@ module _ (L : Listing) where
 
 module _ (t : Text) (few : sizeOf t ≤ NODES) {u : Text} {b : Block} (p : StartsWith t (part u b)) (a : ℕ)
     (h : Among (sizeOf u) (sizeOf u + blockSize b) a) where
-  -- a part's first node is its routine's lowest-numbered
-  part-entry : Lowest (nodesOf t) (node (nodesOf t) a .routine) (sizeOf u)
+  -- a part's first node is its routine's entry
+  part-entry : EntryOf (nodesOf t) (node (nodesOf t) a .routine) (sizeOf u)
   part-entry =
       let some : 1 ≤ blockSize b = block-some b in
       let here = placed-at p few a h .routine in
@@ -136,8 +132,8 @@ module _ (t : Text) (few : sizeOf t ≤ NODES) {u : Text} {b : Block} (p : Start
   part-reached : Reached (nodesOf t) (sizeOf u) a
   part-reached = block-whole (nodesOf t) b (partsOf u) (sizeOf u) none (omega (arith, text-count t, begins-size p)) (part-has p) .all a (h .0) (h .1)
 
--- EVERY NODE IS REACHED FROM THE LOWEST-NUMBERED NODE OF ITS ROUTINE
-pub text-entered : (t : Text) → sizeOf t ≤ NODES → Entered (nodesOf t)
+-- EVERY NODE IS REACHED FROM THE ENTRY OF ITS ROUTINE
+pub text-entered : (t : Text) → sizeOf t ≤ NODES → AllEntered (nodesOf t)
 text-entered t few a l =
     let p = part-of t a (let c = text-count t in omega arith) in
     (sizeOf (p .before), part-entry t few (p .begins) a (p .there), part-reached t few (p .begins) a (p .there))

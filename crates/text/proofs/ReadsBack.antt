@@ -8,16 +8,17 @@ use lib.Seq.{take-at}
 use Rattle.listing.specs.Bytes.{bytesOf, nodesOf, countF, countN, recordAt}
 use Rattle.listing.specs.Rules.{Refusal}
 use Rattle.listing.specs.Answer.{Answer, done}
-use Rattle.listing.specs.Read.{Admitted, readBy, readOf}
+use Rattle.listing.specs.Form.{readBy}
 use Rattle.listing.proofs.RoundTrip.{bytes-length, read-written}
+use Rattle.order.specs.Entered.{AllEntered}
+use Rattle.reader.specs.Read.{Admitted, readOf}
+use Rattle.reader.proofs.Admitted.{admitted-entered}
 use Rattle.grammar.specs.Tree.{Text, partsOf, sizeOf, nodesOf as treeNodes}
 use Rattle.grammar.specs.Stands.{TreeOf}
 use Rattle.grammar.proofs.Places.{tree-found}
 use Rattle.text.specs.Typing.{Typed, bad, refuses, writes, listingOf}
-use Rattle.text.specs.Entered.{Entered}
 use Rattle.text.proofs.Fits.{Fits, fits-exactly}
 use Rattle.text.proofs.Admitted.{text-admitted}
-use Rattle.text.proofs.Reached.{text-entered}
 use Rattle.text.proofs.Counts.{text-count}
 
 -- a length is answered only where a tree that fits is written
@@ -80,8 +81,6 @@ module _ (s old new : List ℕ) (n : ℕ) (w : Typed s old (done 0 0 n) new) whe
         ∙ ap (λ (l : List ℕ). done (countN l) (countF l) 0) listing
         ∙ ap (λ (k : ℕ). done k (partsOf t) 0) (text-count t)
 
-  -- EVERY NODE OF IT IS REACHED FROM THE LOWEST-NUMBERED NODE OF ITS ROUTINE
-  pub typed-entered : Entered (nodesOf (take n new))
-  typed-entered =
-      let x = wrote s old new n w in
-      rw (typed-nodes (x .tree) (x .has)) (text-entered (x .tree) (x .fits .nodes))
+  -- EVERY NODE OF IT IS REACHED FROM THE ENTRY OF ITS ROUTINE
+  pub typed-entered : AllEntered (nodesOf (take n new))
+  typed-entered = admitted-entered (take n new) typed-admitted

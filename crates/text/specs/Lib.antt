@@ -1,4 +1,4 @@
 pub mod Typing
-pub mod Entered
+pub mod Parted
 pub mod Cases
 pub mod Inner

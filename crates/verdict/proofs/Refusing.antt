@@ -9,10 +9,10 @@ use borrow.Author.Tests.{lt-ltb, le-ltb, leb-true, not-false}
 use Rattle.listing.specs.Bytes.{nodesOf}
 use Rattle.listing.specs.Answer.{Answer, refusal}
 use Rattle.listing.specs.Rules.{Rule, rule, Refusal, passed, refused, firstOf}
-use Rattle.listing.specs.Read.{readRules, Admitted}
 use Rattle.listing.proofs.Bools.{and-both}
 use Rattle.listing.proofs.Table.{pass, stop}
 use Rattle.order.specs.Need.{QUESTIONS, Asked}
+use Rattle.reader.specs.Read.{readRules, Admitted}
 use Rattle.verdict.specs.Judging.{wrongQuestion, questionRules, bufferRules, CHAIN, judgeRules, Told, Judging, JudgePromise}
 
 -- ── A table of one row ──────────────────────────────────────────────────────
@@ -41,9 +41,9 @@ module _ (q : ℕ) (s old : List ℕ) where
   unfolding judgeRules
   judge-1 e = question-stops q (readRules s ++ bufferRules CHAIN old) e
 
-  pub judge-2-12 : (k p : ℕ) → wrongQuestion q ≡ false → firstOf (readRules s) ≡ refused k p → firstOf (judgeRules q s old) ≡ refused k p
+  pub judge-listing : (k p : ℕ) → wrongQuestion q ≡ false → firstOf (readRules s) ≡ refused k p → firstOf (judgeRules q s old) ≡ refused k p
   unfolding judgeRules
-  judge-2-12 k p e h = question-passes q (readRules s ++ bufferRules CHAIN old) e ∙ stop (readRules s) (bufferRules CHAIN old) k p h
+  judge-listing k p e h = question-passes q (readRules s ++ bufferRules CHAIN old) e ∙ stop (readRules s) (bufferRules CHAIN old) k p h
 
   past-listing : wrongQuestion q ≡ false → Admitted s → firstOf (judgeRules q s old) ≡ firstOf (bufferRules CHAIN old)
   unfolding judgeRules

@@ -9,11 +9,11 @@ use Rattle.listing.specs.Limits.{NODES}
 use Rattle.listing.specs.Node.{Listing}
 use Rattle.listing.specs.Bytes.{nodesOf}
 use Rattle.listing.specs.Rules.{Rule, rule, Refusal, passed, refused, firstOf}
-use Rattle.listing.specs.Read.{readRules}
 use Rattle.listing.specs.Answer.{Answer, done, openAt, refusal, filled}
 use Rattle.order.specs.Chains.{Ends}
 use Rattle.order.specs.Need.{QUESTIONS}
 use Rattle.order.specs.Verdict.{Verdict, robust, opened, Judged}
+use Rattle.reader.specs.Read.{readRules}
 use Rattle.verdict.specs.declared.JudgeAnswer.{JudgeAnswer}
 use Rattle.verdict.specs.declared.JudgeAnswer.the-variants.{Robust, Open, Refused}
 
@@ -33,7 +33,7 @@ bufferRules size buffer = rule (ltb (length buffer) size) 16 0 ∷ []
 abbrev pub CHAIN : ℕ
 CHAIN = 2 * (NODES + 1)
 
--- judge's refusals: 1, then 2 to 12, then 16
+-- judge's refusals: 1, then 2 to 12 and 18, then 16
 unfoldable pub judgeRules : ℕ → List ℕ → List ℕ → List Rule
 judgeRules q s chain = questionRules q ++ (readRules s ++ bufferRules CHAIN chain)
 

@@ -104,7 +104,7 @@ pub fn decide(question: u8, bytes: &[u8], chain: &mut [u8]) -> JudgeAnswer
     }
 }
 
-// ROBUST, or OPEN with the first failing pair and its chain, or the first of the refusals 1 to 12 and 16 that applies.
+// ROBUST, or OPEN with the first failing pair and its chain, or the first of the refusals 1 to 12, 18 and 16 that applies.
 pub fn judge(question: u64, bytes: &[u8], chain: &mut [u8]) -> JudgeAnswer
     ensures { λ r. ⌜ JudgePromise question (now (bytes .entry)) (now (chain .entry)) (now (chain .exit)) (judgeSays r) ⌝ }
 {
@@ -114,7 +114,7 @@ pub fn judge(question: u64, bytes: &[u8], chain: &mut [u8]) -> JudgeAnswer
             place: 0,
         };
     }
-    match listing::read(bytes) {
+    match reader::read(bytes) {
         ReadAnswer::Refused { number, place } => JudgeAnswer::Refused { number, place },
         ReadAnswer::Good(_) => {
             if chain.len() < CHAIN_BYTES {

@@ -1,7 +1,7 @@
 -- `fence::map_length` meets its contract: a listing that was read has at most 128 nodes.
 use native.Mathlib.Omega.{arith}
-use Rattle.listing.proofs.Reading.{admitted-whole}
-use Rattle.listing.proofs.ReadPromise.{read-good}
+use Rattle.reader.proofs.Admitted.{admitted-whole}
+use Rattle.reader.proofs.ReadPromise.{read-good}
 use borrow.Author.Needs.{needs}
 use Rattle.fence.proofs.map_length.Statement.{statement}
 use Rattle.fence.proofs.map_length.Tie as tie

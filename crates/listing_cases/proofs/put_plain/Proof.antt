@@ -20,6 +20,12 @@ put-heading-requires c κs = search needs
 loop-holds : tie.Need-loop-holds Inv-loop μ-loop
 loop-holds c = sym (ap length (c .put-heading .ensures) ∙ simp length-set (c .before .put-heading-arg .given .0 .1))
 
+add-next : tie.Need-add-next Inv-loop μ-loop
+add-next c = search needs
+
+cast-put-record : tie.Need-cast-put-record Inv-loop μ-loop
+cast-put-record c = search needs
+
 put-record-requires : tie.Need-put-record-requires Inv-loop μ-loop
 put-record-requires c κs = search needs
 
@@ -43,6 +49,8 @@ put-plain-spec =
     μ-loop
     put-heading-requires
     loop-holds
+    add-next
+    cast-put-record
     put-record-requires
     add-i
     loop-less

@@ -2,9 +2,9 @@
 use borrow.Author.Needs.{needs}
 use mathlib.Core.Path.{sym, _∙_}
 use denote.Ref.{now}
-use Rattle.listing.specs.Read.{Admitted}
-use Rattle.listing.proofs.Reading.{admitted-whole}
-use Rattle.listing.proofs.ReadPromise.{read-refused, read-good}
+use Rattle.reader.specs.Read.{Admitted}
+use Rattle.reader.proofs.Admitted.{admitted-whole}
+use Rattle.reader.proofs.ReadPromise.{read-refused, read-good}
 use Rattle.patch.proofs.MapRules.{by-listing, by-map}
 use Rattle.patch.proofs.check.Statement.{statement}
 use Rattle.patch.proofs.check.Tie as tie

@@ -4,12 +4,12 @@ use mathlib.Core.Path.{_≡_, refl, sym, _∙_}
 use mathlib.Core.Bool.{false}
 use native.Mathlib.Omega.{arith}
 use denote.Ref.{now}
-use Rattle.listing.specs.Read.{Admitted}
-use Rattle.listing.proofs.Reading.{admitted-whole}
-use Rattle.listing.proofs.ReadPromise.{read-refused, read-good}
+use Rattle.reader.specs.Read.{Admitted}
+use Rattle.reader.proofs.Admitted.{admitted-whole}
+use Rattle.reader.proofs.ReadPromise.{read-refused, read-good}
 use Rattle.verdict.specs.Judging.{wrongQuestion}
 use Rattle.verdict.proofs.Refusing.{question-in}
-use Rattle.proposal.proofs.Offering.{ask-1, ask-2-12, ask-passes}
+use Rattle.proposal.proofs.Offering.{ask-1, ask-listing, ask-passes}
 use Rattle.proposal.proofs.propose.Statement.{statement}
 use Rattle.proposal.proofs.propose.Tie as tie
 
@@ -50,7 +50,7 @@ propose-for-requires c κs =
 returns-2 : tie.Need-returns-2
 returns-2 c =
     let r = c .before .before .before in
-    ask-2-12 _ _ _ _ _ _ (asked (r .before)) (read-refused _ _ _ _ (r .read .ensures) (c .before .number .given .1)) refl
+    ask-listing _ _ _ _ _ _ (asked (r .before)) (read-refused _ _ _ _ (r .read .ensures) (c .before .number .given .1)) refl
 
 same-length : tie.Need-same-length
 same-length c = search needs

@@ -11,6 +11,12 @@ pub record Added (w v : List ℕ) (a b : ℕ) : Type 0 where
   pub keeps : (x y : ℕ) → y < 128 → Has w x y → Has v x y
   pub new : Has v a b
 
+-- b is taken out of row a
+pub record Removed (w v : List ℕ) (a b : ℕ) : Type 0 where
+  pub gives : (x y : ℕ) → y < 128 → Has v x y → Has w x y
+  pub keeps : (x y : ℕ) → y < 128 → ((x ≡ a) × (y ≡ b) → ⊥) → Has w x y → Has v x y
+  pub gone : Has v a b → ⊥
+
 -- row a has become f of what it was and of row k of u; the other rows are as they were
 pub record Mixed (f : ℕ → ℕ → ℕ) (u w v : List ℕ) (a k : ℕ) : Type 0 where
   pub row : (y : ℕ) → y < 128 → at v a y ≡ f (at w a y) (at u k y)

@@ -4,11 +4,11 @@ use mathlib.Core.Path.{_≡_, sym, _∙_}
 use mathlib.Core.Bool.{false}
 use native.Mathlib.Omega.{arith}
 use denote.Ref.{now}
-use Rattle.listing.specs.Read.{Admitted}
-use Rattle.listing.proofs.Reading.{admitted-whole}
-use Rattle.listing.proofs.ReadPromise.{read-good, read-refused}
+use Rattle.reader.specs.Read.{Admitted}
+use Rattle.reader.proofs.Admitted.{admitted-whole}
+use Rattle.reader.proofs.ReadPromise.{read-good, read-refused}
 use Rattle.verdict.specs.Judging.{wrongQuestion}
-use Rattle.verdict.proofs.Refusing.{judge-1, judge-2-12, judge-16, judge-passes, judge-refused, judge-told, question-in}
+use Rattle.verdict.proofs.Refusing.{judge-1, judge-listing, judge-16, judge-passes, judge-refused, judge-told, question-in}
 use Rattle.verdict.proofs.judge.Statement.{statement}
 use Rattle.verdict.proofs.judge.Tie as tie
 
@@ -55,7 +55,7 @@ decide-requires c κs =
 returns-3 : tie.Need-returns-3
 returns-3 c =
     let r = c .before .before .before in
-    judge-refused _ _ _ _ _ (judge-2-12 _ _ _ _ _ (asked (r .before)) (read-refused _ _ _ _ (r .read .ensures) (c .before .number .given .1)))
+    judge-refused _ _ _ _ _ (judge-listing _ _ _ _ _ (asked (r .before)) (read-refused _ _ _ _ (r .read .ensures) (c .before .number .given .1)))
 
 same-length : tie.Need-same-length
 same-length c = search needs

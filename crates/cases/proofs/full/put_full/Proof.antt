@@ -20,6 +20,9 @@ put-heading-requires c κs = search needs
 loop-holds : tie.Need-loop-holds Inv-loop μ-loop
 loop-holds c = sym (ap length (c .put-heading .ensures) ∙ simp length-set (c .before .put-heading-arg .given .0 .1))
 
+add-next : tie.Need-add-next Inv-loop μ-loop
+add-next c = search needs
+
 cast-put-record : tie.Need-cast-put-record Inv-loop μ-loop
 cast-put-record c = search needs
 
@@ -46,6 +49,7 @@ put-full-spec =
     μ-loop
     put-heading-requires
     loop-holds
+    add-next
     cast-put-record
     put-record-requires
     add-i

@@ -4,7 +4,7 @@ use Prim.Native.Nat.{ℕ}
 use lib.ListN.{drop}
 use denote.Ref.{now}
 use Rattle.listing.specs.Rules.{firstOf}
-use Rattle.listing.specs.Read.{nodeRules}
+use Rattle.listing.specs.Form.{nodeRules}
 use Rattle.listing.proofs.Table.{row-passes, row-applies}
 use borrow.Author.Needs.{needs}
 use Rattle.listing.proofs.rules.fault.Statement.{statement}

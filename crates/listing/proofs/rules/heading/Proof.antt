@@ -9,7 +9,7 @@ use Rattle.listing.specs.Limits.{ROUTINES, NODES}
 use Rattle.listing.specs.Kinds.{isVersion}
 use Rattle.listing.specs.Bytes.{versionOf}
 use Rattle.listing.specs.Rules.{firstOf}
-use Rattle.listing.specs.Read.{headingRules, wrongF}
+use Rattle.listing.specs.Form.{headingRules, wrongF}
 use Rattle.listing.proofs.rules.heading.Statement.{statement}
 use Rattle.listing.proofs.rules.heading.Tie as tie
 

@@ -8,7 +8,7 @@ use lib.Dec.{eqb}
 use denote.Ref.{now}
 use Rattle.listing.specs.Node.{none, node}
 use Rattle.listing.specs.Bytes.{countN, nodesOf}
-use Rattle.listing.specs.Read.{astray}
+use Rattle.listing.specs.Form.{astray}
 use Rattle.listing.proofs.Nodes.{nodes-at}
 use borrow.Author.Needs.{needs}
 use Rattle.listing.proofs.rules.strays.Statement.{statement}

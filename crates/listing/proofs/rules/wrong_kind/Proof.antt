@@ -1,7 +1,7 @@
 -- `listing::rules::wrong_kind` meets its contract.
 use mathlib.Core.Path.{ap, _∙_}
 use Rattle.listing.specs.Kinds.{kindsOf}
-use Rattle.listing.specs.Read.{wrongKind}
+use Rattle.listing.specs.Form.{wrongKind}
 use Rattle.listing.proofs.Nodes.{nodes-at}
 use borrow.Author.Needs.{needs}
 use Rattle.listing.proofs.rules.wrong_kind.Statement.{statement}

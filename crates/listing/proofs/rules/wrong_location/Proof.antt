@@ -4,7 +4,7 @@ use denote.Ref.{now}
 use Rattle.listing.specs.Kinds.{hasNoLocation}
 use Rattle.listing.specs.Node.{Node}
 use Rattle.listing.specs.Bytes.{nodeAt}
-use Rattle.listing.specs.Read.{wrongLocation}
+use Rattle.listing.specs.Form.{wrongLocation}
 use Rattle.listing.proofs.Nodes.{nodes-at}
 use borrow.Author.Needs.{needs}
 use Rattle.listing.proofs.rules.wrong_location.Statement.{statement}

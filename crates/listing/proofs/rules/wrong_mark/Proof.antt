@@ -7,7 +7,7 @@ use mathlib.Core.List.{List}
 use Prim.Native.Nat.{ℕ}
 use lib.Dec.{eqb}
 use lib.ListN.{getD}
-use Rattle.listing.specs.Read.{wrongMark}
+use Rattle.listing.specs.Form.{wrongMark}
 use Rattle.listing.proofs.rules.wrong_mark.Statement.{statement}
 use Rattle.listing.proofs.rules.wrong_mark.Tie as tie
 

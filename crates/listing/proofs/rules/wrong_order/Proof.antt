@@ -4,7 +4,7 @@ use mathlib.Core.Path.{_≡_, sym, ap, _∙_, refl}
 use denote.Ref.{now}
 use Rattle.listing.specs.Node.{Node}
 use Rattle.listing.specs.Bytes.{nodeAt}
-use Rattle.listing.specs.Read.{wrongOrder}
+use Rattle.listing.specs.Form.{wrongOrder}
 use Rattle.listing.proofs.Nodes.{nodes-at}
 use borrow.Author.Needs.{needs}
 use Rattle.listing.proofs.rules.wrong_order.Statement.{statement}

@@ -1,5 +1,5 @@
 -- `listing::rules::wrong_routine` meets its contract.
-use Rattle.listing.specs.Read.{wrongRoutine}
+use Rattle.listing.specs.Form.{wrongRoutine}
 use Rattle.listing.proofs.Nodes.{nodes-at}
 use borrow.Author.Needs.{needs}
 use Rattle.listing.proofs.rules.wrong_routine.Statement.{statement}

@@ -2,7 +2,7 @@
 use mathlib.Core.Path.{_≡_, sym}
 use denote.Ref.{now}
 use Rattle.listing.specs.Bytes.{nodeAt}
-use Rattle.listing.specs.Read.{astray, wrongSuccessor}
+use Rattle.listing.specs.Form.{astray, wrongSuccessor}
 use Rattle.listing.proofs.Nodes.{nodes-at}
 use borrow.Author.Needs.{needs}
 use Rattle.listing.proofs.rules.wrong_successor.Statement.{statement}

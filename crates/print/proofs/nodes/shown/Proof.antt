@@ -1,6 +1,6 @@
 -- `print::nodes::shown` is safe: a listing that was read is whole.
-use Rattle.listing.proofs.Reading.{admitted-whole}
-use Rattle.listing.proofs.ReadPromise.{read-good}
+use Rattle.reader.proofs.Admitted.{admitted-whole}
+use Rattle.reader.proofs.ReadPromise.{read-good}
 use borrow.Author.Needs.{needs}
 use Rattle.print.proofs.nodes.shown.Statement.{statement}
 use Rattle.print.proofs.nodes.shown.Tie as tie

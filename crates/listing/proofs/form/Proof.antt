@@ -1,14 +1,14 @@
--- `listing::read` meets its contract. The loop's invariant: the answer is what the rows of the nodes from `i` on say.
+-- `listing::form` meets its contract. The loop's invariant: the answer is what the rows of the nodes from `i` on say.
 use borrow.Author.Needs.{needs}
 use mathlib.Core.Path.{_≡_, _∙_}
 use Prim.Native.Nat.{_-_}
 use denote.Ref.{now}
 use Rattle.listing.specs.Rules.{firstOf, passed}
-use Rattle.listing.specs.Read.{headingRules}
+use Rattle.listing.specs.Form.{headingRules}
 use Rattle.listing.proofs.Table.{numbered-none}
-use Rattle.listing.proofs.Reading.{heading-whole, by-heading, From, start, node-refuses, node-passes, all-read}
-use Rattle.listing.proofs.read.Statement.{statement}
-use Rattle.listing.proofs.read.Tie as tie
+use Rattle.listing.proofs.Forming.{heading-whole, by-heading, From, start, node-refuses, node-passes, all-read}
+use Rattle.listing.proofs.form.Statement.{statement}
+use Rattle.listing.proofs.form.Tie as tie
 
 abbrev Inv-loop : tie.InvT-loop
 Inv-loop bytes number nodes i₀ i = From bytes nodes i
@@ -61,8 +61,8 @@ returns-3 c =
     let after = c .before .before in
     all-read _ _ _ _ (after .before .loop .inv) (after .loop-test .left) (c .wide .ensures .0 ∙ c .before .routine-count .ensures)
 
-pub read-spec : {M : Type 1} → statement M
-read-spec =
+pub form-spec : {M : Type 1} → statement M
+form-spec =
     tie.close
     (tie.spec
     Inv-loop

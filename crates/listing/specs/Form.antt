@@ -1,4 +1,4 @@
--- The refusals of reading, 2 to 12, in the table's order, and the reader's answer.
+-- The refusals of a listing's form, 2 to 12, in the table's order, and a reader's answer.
 use mathlib.Core.Path.{_≡_}
 use mathlib.Core.Bool.{Bool, not, _&&_, _||_}
 use mathlib.Core.List.{List, [], _∷_, _++_}
@@ -69,13 +69,13 @@ abbrev pub nodesRules : List ℕ → ℕ → ℕ → List Rule
 nodesRules s i zero = []
 nodesRules s i (suc k) = nodeRules s i ++ nodesRules s (suc i) k
 
--- the listing's refusals, 2 to 12
-unfoldable pub readRules : List ℕ → List Rule
-readRules s = headingRules s ++ nodesRules s 0 (countN s)
+-- the form's refusals, 2 to 12
+unfoldable pub formRules : List ℕ → List Rule
+formRules s = headingRules s ++ nodesRules s 0 (countN s)
 
--- a listing that the judge admits
-abbrev pub Admitted : List ℕ → Type 0
-Admitted s = firstOf (readRules s) ≡ passed
+-- a listing whose form no rule refuses
+abbrev pub Formed : List ℕ → Type 0
+Formed s = firstOf (formRules s) ≡ passed
 
 -- the rules' number and values for each case of the reader's answer
 abbrev pub readSays : ReadAnswer → Answer
@@ -87,5 +87,6 @@ abbrev pub readBy : Refusal → ℕ → ℕ → Answer
 readBy passed n f = done n f 0
 readBy (refused k p) n f = refusal k p
 
-unfoldable pub readOf : List ℕ → Answer
-readOf s = readBy (firstOf (readRules s)) (countN s) (countF s)
+-- what is answered by the form alone
+unfoldable pub formOf : List ℕ → Answer
+formOf s = readBy (firstOf (formRules s)) (countN s) (countF s)
