@@ -17,7 +17,7 @@ pub record EntryOf (L : Listing) (r e : ℕ) : Type 0 where
 abbrev pub Reached : Listing → ℕ → ℕ → Type 0
 Reached L e a = (e ≡ a) ⊎ ((inside : List ℕ) × Walk L e inside a)
 
--- node a is the entry of its routine, or a walk from the entry reaches it
+-- "Any other node that no walk from the entry of its routine reaches is refused": what passes is the entry itself, or reached from it
 abbrev pub Entered : Listing → ℕ → Type 0
 Entered L a = (e : ℕ) × EntryOf L (node L a .routine) e × Reached L e a
 
