@@ -57,7 +57,7 @@ module _ (n : ℕ) (w t : List ℕ) (b : ℕ) where
     found = λ x h k. inl k;
     keeps = λ x h k. k;
     new = f;
-    todo = λ x h k. inl k;
+    waiting = λ x h k. inl k;
     stays = λ x h k. k;
   }
 
@@ -66,7 +66,7 @@ module _ (n : ℕ) (w t : List ℕ) (b : ℕ) where
     found = λ x h k. ⊎-elim inl (λ e. inr (e .1, l, subst (Has u 0) (sym (e .1)) (q .new))) (p .gives 0 x h k);
     keeps = λ x h k. p .keeps 0 x h k;
     new = λ _. p .new;
-    todo = λ x h k. ⊎-elim inl (λ e. inr (e .1, l, λ g. f (subst (Has w 0) (e .1) g))) (q .gives 0 x h k);
+    waiting = λ x h k. ⊎-elim inl (λ e. inr (e .1, l, λ g. f (subst (Has w 0) (e .1) g))) (q .gives 0 x h k);
     stays = λ x h k. q .keeps 0 x h k;
   }
 

@@ -29,7 +29,7 @@ since-none w t = record { keeps = λ x h k. k; only = λ x h k. inl k }
 pub since-on : (n : ℕ) (w₀ t₀ w t v u z : List ℕ) (b c r : ℕ) → Since w₀ t₀ w t → Left n w t v u b → Stepped n v z c r → Since w₀ t₀ z u
 since-on n w₀ t₀ w t v u z b c r s l p = record {
   keeps = λ x h k. p .keeps x h (l .keeps x h (s .keeps x h k));
-  only = λ x h k. ⊎-elim (s .only x h) (λ e. inr (λ g. e .2 (s .keeps x h g))) (l .todo x h k);
+  only = λ x h k. ⊎-elim (s .only x h) (λ e. inr (λ g. e .2 (s .keeps x h g))) (l .waiting x h k);
 }
 
 -- ── How much is left ────────────────────────────────────────────────────────
@@ -196,7 +196,7 @@ module _ (L : Listing) (n : ℕ) (few : n ≤ 128) (same : n ≡ length L) where
 
         due : (x : ℕ) → x < 128 → Has u 0 x → Has v 0 x
         due x k f =
-            ⊎-elim (λ d. l .keeps x k (g .due x k d)) (λ e. subst (Has v 0) (sym (e .0)) (l .new (e .1))) (l .todo x k f)
+            ⊎-elim (λ d. l .keeps x k (g .due x k d)) (λ e. subst (Has v 0) (sym (e .0)) (l .new (e .1))) (l .waiting x k f)
 
         -- both successors of a are found now
         both-found : (y : ℕ) → Succ L a y → Has z 0 y

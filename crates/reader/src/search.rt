@@ -43,9 +43,9 @@ fn entries(bytes: &[u8], found: &mut [u64; 2])
 }
 
 // Finds b, if it is a node that was not found, and leaves it to be followed.
-fn leave(n: usize, found: &mut [u64; 2], todo: &mut [u64; 2], b: u8)
+fn leave(n: usize, found: &mut [u64; 2], waiting: &mut [u64; 2], b: u8)
     requires { ⌜ n ≤ 128 ⌝ }
-    ensures { λ _. ⌜ Left n (now (found .entry)) (now (todo .entry)) (now (found .exit)) (now (todo .exit)) b ⌝ }
+    ensures { λ _. ⌜ Left n (now (found .entry)) (now (waiting .entry)) (now (found .exit)) (now (waiting .exit)) b ⌝ }
 {
     let y = listing::wide(b);
     if n <= y {
@@ -55,7 +55,7 @@ fn leave(n: usize, found: &mut [u64; 2], todo: &mut [u64; 2], b: u8)
         return;
     }
     rows::put(found, 0, y);
-    rows::put(todo, 0, y);
+    rows::put(waiting, 0, y);
 }
 
 // Finds b, if it is a node that was not found, and says so by its number; else by n.
@@ -75,32 +75,32 @@ fn step(n: usize, found: &mut [u64; 2], b: u8) -> usize
 }
 
 // Follows first successors from a on, as long as they were not found; second ones are left.
-fn trail(bytes: &[u8], found: &mut [u64; 2], todo: &mut [u64; 2], a: usize)
-    requires { ⌜ Housed (now bytes) × Hunt (nodesOf (now bytes)) (countN (now bytes)) (now found) (now todo) a ⌝ }
-    ensures { λ _. ⌜ Hunt (nodesOf (now (bytes .entry))) (countN (now (bytes .entry))) (now (found .exit)) (now (todo .exit)) (countN (now (bytes .entry)))
-        × Since (now (found .entry)) (now (todo .entry)) (now (found .exit)) (now (todo .exit)) ⌝ }
+fn trail(bytes: &[u8], found: &mut [u64; 2], waiting: &mut [u64; 2], a: usize)
+    requires { ⌜ Housed (now bytes) × Hunt (nodesOf (now bytes)) (countN (now bytes)) (now found) (now waiting) a ⌝ }
+    ensures { λ _. ⌜ Hunt (nodesOf (now (bytes .entry))) (countN (now (bytes .entry))) (now (found .exit)) (now (waiting .exit)) (countN (now (bytes .entry)))
+        × Since (now (found .entry)) (now (waiting .entry)) (now (found .exit)) (now (waiting .exit)) ⌝ }
 {
     let n = listing::node_count(bytes);
     let mut at = a;
     while at < n {
-        leave(n, found, todo, listing::second_at(bytes, at));
+        leave(n, found, waiting, listing::second_at(bytes, at));
         at = step(n, found, listing::first_at(bytes, at));
     }
 }
 
-// All that walks from the entries reach, where found has the entries. todo is for the work: what is found and not followed yet.
-fn follow(bytes: &[u8], found: &mut [u64; 2], todo: &mut [u64; 2])
+// All that walks from the entries reach, where found has the entries. waiting is for the work: what is found and not followed yet.
+fn follow(bytes: &[u8], found: &mut [u64; 2], waiting: &mut [u64; 2])
     requires { ⌜ Housed (now bytes) × Members (now found) (countN (now bytes)) (IsEntry (nodesOf (now bytes))) ⌝ }
     ensures { λ _. ⌜ Members (now (found .exit)) (countN (now (bytes .entry))) (Entered (nodesOf (now (bytes .entry)))) ⌝ }
 {
     let n = listing::node_count(bytes);
-    rows::clear(todo);
-    rows::pour(found, 0, todo, 0);
-    let mut a = rows::next(todo, 0, 0, n);
+    rows::clear(waiting);
+    rows::pour(found, 0, waiting, 0);
+    let mut a = rows::next(waiting, 0, 0, n);
     while a < n {
-        rows::take_out(todo, 0, a);
-        trail(bytes, found, todo, a);
-        a = rows::next(todo, 0, 0, n);
+        rows::take_out(waiting, 0, a);
+        trail(bytes, found, waiting, a);
+        a = rows::next(waiting, 0, 0, n);
     }
 }
 
@@ -123,8 +123,8 @@ pub fn first_dead(bytes: &[u8]) -> usize
     ensures { λ r. ⌜ Least (λ a. Entered (nodesOf (now (bytes .entry))) a → ⊥) 0 (countN (now (bytes .entry))) r ⌝ }
 {
     let mut found = [0u64; 2];
-    let mut todo = [0u64; 2];
+    let mut waiting = [0u64; 2];
     entries(bytes, &mut found);
-    follow(bytes, &mut found, &mut todo);
+    follow(bytes, &mut found, &mut waiting);
     missing(listing::node_count(bytes), &found)
 }

@@ -27,20 +27,20 @@ pub record Seen (L : Listing) (routines found : List ℕ) (i : ℕ) : Type 0 whe
   pub each : (b : ℕ) → b < i → Has routines 0 (node L b .routine)
   pub entries : Members found i (IsEntry L)
 
--- what is found is entered, and has every entry; its links lead to what is found, but for those of nodes still to be followed: what `todo` has, and `at`
-pub record Hunt (L : Listing) (n : ℕ) (found todo : List ℕ) (at : ℕ) : Type 0 where
+-- what is found is entered, and has every entry; its links lead to what is found, but for those of nodes still to be followed: what `waiting` has, and `at`
+pub record Hunt (L : Listing) (n : ℕ) (found waiting : List ℕ) (at : ℕ) : Type 0 where
   pub sound : (x : ℕ) → x < 128 → Has found 0 x → (x < n) × Entered L x
   pub entries : (r e : ℕ) → EntryOf L r e → Has found 0 e
-  pub due : (x : ℕ) → x < 128 → Has todo 0 x → Has found 0 x
+  pub due : (x : ℕ) → x < 128 → Has waiting 0 x → Has found 0 x
   pub here : at < n → Has found 0 at
-  pub closed : (x y : ℕ) → x < n → Has found 0 x → Succ L x y → Has found 0 y ⊎ (Has todo 0 x ⊎ (x ≡ at))
+  pub closed : (x y : ℕ) → x < n → Has found 0 x → Succ L x y → Has found 0 y ⊎ (Has waiting 0 x ⊎ (x ≡ at))
 
 -- b, if it is a node that was not found, is found and left to be followed: w found and t to follow before, v and u after
 pub record Left (n : ℕ) (w t v u : List ℕ) (b : ℕ) : Type 0 where
   pub found : (x : ℕ) → x < 128 → Has v 0 x → Has w 0 x ⊎ ((x ≡ b) × (b < n) × Has u 0 x)
   pub keeps : (x : ℕ) → x < 128 → Has w 0 x → Has v 0 x
   pub new : b < n → Has v 0 b
-  pub todo : (x : ℕ) → x < 128 → Has u 0 x → Has t 0 x ⊎ ((x ≡ b) × (b < n) × (Has w 0 x → ⊥))
+  pub waiting : (x : ℕ) → x < 128 → Has u 0 x → Has t 0 x ⊎ ((x ≡ b) × (b < n) × (Has w 0 x → ⊥))
   pub stays : (x : ℕ) → x < 128 → Has t 0 x → Has u 0 x
 
 -- r is b, found now, if that is a node that was not found, and n else: w found before, v after

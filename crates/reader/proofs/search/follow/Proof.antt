@@ -17,10 +17,10 @@ use Rattle.reader.proofs.search.follow.Statement.{statement}
 use Rattle.reader.proofs.search.follow.Tie as tie
 
 abbrev Inv-loop : tie.InvT-loop
-Inv-loop bytes found₀ todo₀ n a₀ found todo a = (n ≡ countN bytes) × (n ≤ 128) × Hunt (nodesOf bytes) n found todo n × Least (Has todo 0) 0 n a
+Inv-loop bytes found₀ waiting₀ n a₀ found waiting a = (n ≡ countN bytes) × (n ≤ 128) × Hunt (nodesOf bytes) n found waiting n × Least (Has waiting 0) 0 n a
 
 abbrev μ-loop : tie.MeasureT-loop
-μ-loop bytes found₀ todo₀ n a₀ found todo a = undone found todo n
+μ-loop bytes found₀ waiting₀ n a₀ found waiting a = undone found waiting n
 
 node-count-requires : tie.Need-node-count-requires Inv-loop μ-loop
 node-count-requires c κs = c .before .pre .0 .whole

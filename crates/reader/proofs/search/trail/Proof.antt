@@ -13,10 +13,10 @@ use Rattle.reader.proofs.search.trail.Statement.{statement}
 use Rattle.reader.proofs.search.trail.Tie as tie
 
 abbrev Inv-loop : tie.InvT-loop
-Inv-loop bytes found₀ todo₀ a n at₀ found todo at = (n ≡ countN bytes) × Hunt (nodesOf bytes) n found todo at × Since found₀ todo₀ found todo
+Inv-loop bytes found₀ waiting₀ a n at₀ found waiting at = (n ≡ countN bytes) × Hunt (nodesOf bytes) n found waiting at × Since found₀ waiting₀ found waiting
 
 abbrev μ-loop : tie.MeasureT-loop
-μ-loop bytes found₀ todo₀ a n at₀ found todo at = ahead found n at
+μ-loop bytes found₀ waiting₀ a n at₀ found waiting at = ahead found n at
 
 node-count-requires : tie.Need-node-count-requires Inv-loop μ-loop
 node-count-requires c κs = c .before .pre .0 .whole
