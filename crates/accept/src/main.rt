@@ -1,5 +1,7 @@
 // Reads a question, a count of nodes and as many nodes, a byte each, and a listing from standard input. Judges the listing with a fence
 // after each of these nodes, and writes one line: ACCEPTED, or the judge's answer.
+#![tactic(auto)]
+
 use libc::{STDIN_FILENO, STDOUT_FILENO};
 
 fn main() {

@@ -1,4 +1,6 @@
 // The acceptor's line: a patch drawn up by anyone, given as the nodes that get a fence after them, is judged.
+#![tactic(auto)]
+
 ghost use Rattle.std.specs.Prelude.{◌≡◌, [], ◌∷◌, ◌≤◌, ◌<◌, min, length};
 ghost use Rattle.io.specs.Counts.{IsPrefixLen};
 ghost use Rattle.listing.specs.Bytes.{byte};

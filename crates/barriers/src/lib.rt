@@ -1,4 +1,6 @@
 // Which pairs have a walk without barrier, one fence after the other.
+#![tactic(auto)]
+
 ghost use Rattle.std.specs.Prelude.{◌<◌, ◌≤◌};
 ghost use Rattle.listing.specs.Bytes.{count_n, nodes_of};
 ghost use Rattle.listing.specs.Inner.Whole.{Whole};

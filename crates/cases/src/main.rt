@@ -1,4 +1,6 @@
 // The rehearsed listings and the sentences under their table: what each service answers, one line a case.
+#![tactic(auto)]
+
 mod armv8;
 mod full;
 mod judging;

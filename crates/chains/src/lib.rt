@@ -1,4 +1,6 @@
 // Shortest courses of hops and pairs over rows of bits, and the least of them: what follows a pair on the chain to show.
+#![tactic(auto)]
+
 ghost use Rattle.std.specs.Prelude.{◌≡◌, ◌+◌, ◌*◌, ◌<◌, ◌≤◌, length};
 ghost use Rattle.rows.specs.Inner.Rows.{Tells, Members, Link};
 ghost use Rattle.rows.specs.Inner.Least.{Least};

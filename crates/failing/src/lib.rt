@@ -1,4 +1,6 @@
 // Failing pairs: the rows that tell them, one test a pair, and the search for the next one that fails.
+#![tactic(auto)]
+
 ghost use Rattle.std.specs.Prelude.{◌<◌, ◌≤◌};
 ghost use Rattle.listing.specs.Bytes.{count_n, nodes_of};
 ghost use Rattle.listing.specs.Inner.Whole.{Whole};

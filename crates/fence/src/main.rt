@@ -1,4 +1,6 @@
 // Reads a question, one byte, and a listing from standard input, and writes the listing with the proposed fences put in.
+#![tactic(auto)]
+
 ghost use Rattle.std.specs.Prelude.{◌≤◌};
 ghost use Rattle.listing.specs.Limits.{NODES};
 

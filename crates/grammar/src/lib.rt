@@ -1,4 +1,6 @@
 // The block reader and the item reader call each other: a block loops over its items, so the stack grows with the nesting alone.
+#![tactic(auto)]
+
 ghost use Rattle.std.specs.Prelude.{◌≡◌, ◌+◌, ◌≤◌, length};
 ghost use Rattle.grammar.specs.Inner.Reader.{end_of, passed_of, Looked, Passed, BlockAhead, ItemAhead, ItemRead, BlockRead, TextRead};
 

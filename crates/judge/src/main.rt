@@ -1,4 +1,6 @@
 // Reads a question, one byte, and a listing from standard input, and writes the judge's answer as one line.
+#![tactic(auto)]
+
 use libc::{STDIN_FILENO, STDOUT_FILENO};
 
 fn main() {

@@ -1,4 +1,6 @@
 // Text put into a lent buffer, piece after piece: each function answers where the next piece goes.
+#![tactic(auto)]
+
 ghost use Rattle.std.specs.Prelude.{◌+◌, ◌≤◌, length};
 ghost use Rattle.lines.specs.Text.{decimal};
 ghost use Rattle.lines.specs.Text.{next as Text·next};

@@ -1,4 +1,6 @@
 // A listing of thread routines: its limits, versions and kinds, the fields of its records, the check of its form, and the writer of its parts.
+#![tactic(auto)]
+
 mod rules;
 
 ghost use Rattle.std.specs.Prelude.{◌≡◌, ◌+◌, ◌*◌, ◌<◌, ◌≤◌, length};

@@ -1,4 +1,6 @@
 // The format's own cases: what the reader answers to each, one line a case.
+#![tactic(auto)]
+
 ghost use Rattle.std.specs.Prelude.{◌≡◌, ◌+◌, length};
 ghost use Rattle.listing.specs.Limits.{NODES};
 ghost use Rattle.listing.specs.Bytes.{record_at};

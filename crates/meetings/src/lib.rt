@@ -1,4 +1,6 @@
 // Who may meet whom: accesses whose locations overlap and live, that is, may be met by a write or an RMW.
+#![tactic(auto)]
+
 mod nodes;
 mod overlaps;
 

@@ -1,4 +1,6 @@
 // The exported services, on numbers and byte slices: each hands over to the proved service and gives its answer as four numbers.
+#![tactic(auto)]
+
 ghost use Rattle.std.specs.Prelude.{◌≡◌};
 ghost use Rattle.listing.specs.Form.{read_says};
 ghost use Rattle.listing.specs.Answer as paper;

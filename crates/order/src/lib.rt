@@ -1,4 +1,6 @@
 // The rules of order on numbers: what the judge asks of two nodes at a time.
+#![tactic(auto)]
+
 mod table;
 
 ghost use Rattle.std.specs.Prelude.{◌≡◌};

@@ -1,4 +1,6 @@
 // Patches: the rules of a map, judging with a map, and writing the patched listing.
+#![tactic(auto)]
+
 ghost use Rattle.std.specs.Prelude.{◌≡◌, ◌++◌, ◌≤◌, length};
 ghost use Rattle.listing.specs.Bytes.{nodes_of};
 ghost use Rattle.listing.specs.Inner.Whole.{Whole};

@@ -1,4 +1,6 @@
 // Text on standard output, for people and for the rehearsed cases.
+#![tactic(auto)]
+
 mod nodes;
 mod words;
 

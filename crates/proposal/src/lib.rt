@@ -1,4 +1,6 @@
 // Proposing a map: a fence after the first node of every failing pair.
+#![tactic(auto)]
+
 ghost use Rattle.std.specs.Prelude.{◌<◌, ◌≤◌, length};
 ghost use Rattle.listing.specs.Bytes.{count_n, nodes_of};
 ghost use Rattle.listing.specs.Inner.Whole.{Whole};

@@ -1,4 +1,6 @@
 // The walks of a listing, as rows of bits, and the relations that are put together from rows: closures, compositions, restrictions.
+#![tactic(auto)]
+
 ghost use Rattle.std.specs.Prelude.{◌+◌, ◌*◌, ◌<◌, ◌≤◌, length};
 ghost use Rattle.rows.specs.Inner.Rows.{Vouches, Holds, Low};
 ghost use Rattle.rows.specs.Inner.Growing.{RowGrown};

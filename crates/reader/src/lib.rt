@@ -1,4 +1,6 @@
 // Reading a listing: the check of its form, and then the search for a node that nothing enters.
+#![tactic(auto)]
+
 mod search;
 
 ghost use Rattle.std.specs.Prelude.{◌≡◌};

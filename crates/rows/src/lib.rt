@@ -1,4 +1,6 @@
 // Relations on at most 128 nodes as rows of bits, two 64-bit words a row; a set of nodes is one row.
+#![tactic(auto)]
+
 ghost use Rattle.std.specs.Prelude.{◌≡◌, ◌+◌, ◌*◌, ◌<◌, ◌≤◌, min, length};
 ghost use Rattle.rows.specs.Inner.Least.{Least};
 ghost use Rattle.rows.specs.Inner.Rows.{Tells, Vouches, IsSet, low_word, high_word, with_words, Has, Blank, Meet};

@@ -1,4 +1,6 @@
 // Answers as lines of text, the same for every program.
+#![tactic(auto)]
+
 mod line;
 
 ghost use Rattle.std.specs.Prelude.{◌≡◌, length};

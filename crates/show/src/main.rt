@@ -1,4 +1,6 @@
 // Reads a listing from standard input, and writes it for a person: a line a node, or why it is refused.
+#![tactic(auto)]
+
 use libc::STDIN_FILENO;
 
 fn main() {

@@ -1,4 +1,6 @@
 // The suspects among the pairs of a listing, as rows of bits: all of the failing-pair test that does not depend on one pair.
+#![tactic(auto)]
+
 mod back;
 
 ghost use Rattle.listing.specs.Bytes.{count_n, nodes_of};

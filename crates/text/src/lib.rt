@@ -1,4 +1,6 @@
 // Listings people can type: a text of parts `routine { block }` becomes the listing of version 1.
+#![tactic(auto)]
+
 mod nodes;
 mod passing;
 mod writer;

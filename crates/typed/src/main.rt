@@ -1,4 +1,6 @@
 // Reads a text from standard input and writes the listing's bytes, or the line `REFUSED number place`.
+#![tactic(auto)]
+
 use libc::{STDERR_FILENO, STDIN_FILENO, STDOUT_FILENO};
 
 fn main() {

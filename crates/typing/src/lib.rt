@@ -1,4 +1,6 @@
 // What the program `typed` writes: a text's listing, or the refusal's line.
+#![tactic(auto)]
+
 ghost use Rattle.std.specs.Prelude.{◌≡◌, suc, length};
 ghost use Rattle.io.specs.Counts.{IsPrefixLen};
 ghost use Rattle.typing.specs.Output.{TypedPromise};

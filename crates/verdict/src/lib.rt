@@ -1,4 +1,6 @@
 // The judge: the verdict of a listing under a question, with the first failing pair and its chain.
+#![tactic(auto)]
+
 ghost use Rattle.std.specs.Prelude.{◌≡◌, ◌*◌, ◌≤◌, length};
 ghost use Rattle.listing.specs.Bytes.{count_n, nodes_of};
 ghost use Rattle.listing.specs.Inner.Whole.{Whole};

@@ -1,4 +1,6 @@
 // The words of a text, one after the other.
+#![tactic(auto)]
+
 mod tell;
 
 ghost use Rattle.std.specs.Prelude.{◌≡◌, ◌≤◌, length};
