@@ -3,8 +3,8 @@
 
 ghost use Rattle.std.specs.Prelude.{◌+◌, ◌≤◌, length};
 ghost use Rattle.lines.specs.Text.{decimal};
-ghost use Rattle.lines.specs.Text.{next as Text·next};
-ghost use Rattle.lines.specs.Text.{pair as Text·pair};
+ghost use Rattle.lines.specs.Text.{next as text_next};
+ghost use Rattle.lines.specs.Text.{pair as text_pair};
 ghost use Rattle.lines.specs.Inner.Put.{Put};
 
 // Words.
@@ -28,8 +28,8 @@ pub fn number(line: &mut [u8], at: usize, n: usize) -> usize
 
 // A number after a space.
 pub fn next(line: &mut [u8], at: usize, n: usize) -> usize
-    requires { at + length (Text·next n) ≤ length line.old }
-    ensures { Put line.old at (Text·next n) line.new result }
+    requires { at + length (text_next n) ≤ length line.old }
+    ensures { Put line.old at (text_next n) line.new result }
 {
     let after = words(line, at, b" ");
     number(line, after, n)
@@ -37,8 +37,8 @@ pub fn next(line: &mut [u8], at: usize, n: usize) -> usize
 
 // A pair after a space.
 pub fn pair(line: &mut [u8], at: usize, a: usize, b: usize) -> usize
-    requires { at + length (Text·pair a b) ≤ length line.old }
-    ensures { Put line.old at (Text·pair a b) line.new result }
+    requires { at + length (text_pair a b) ≤ length line.old }
+    ensures { Put line.old at (text_pair a b) line.new result }
 {
     let first = next(line, at, a);
     let middle = words(line, first, b"-");
