@@ -7,7 +7,7 @@ returns-then-b-ge64 c =
     let a = c.args in
     rw c.lesser.ensures
     (next_above a.w.now a.a a.b a.n c.if-n-b.false c.requires.2 _
-    c.if-b-ge64.true (rw c.high_word_lem.ensures at c.lowest.ensures))
+    c.if-b-ge64.true (rw c.high_word.ensures at c.lowest.ensures))
 
 pub returns-then-r-lt64 : goal.returns-then-r-lt64
 returns-then-r-lt64 c =

@@ -8,5 +8,5 @@ use Rattle.rows.proofs.sift.Goals as goal
 pub returns : goal.returns
 returns c =
     let long = c.requires.0 in
-    mixed bit_and min bit_and_lem long c.low_word.ensures c.low_word-2.ensures c.high_word_lem.ensures c.high_word-2.ensures
+    mixed bit_and min bit_and_lem long c.low_word.ensures c.low_word-2.ensures c.high_word.ensures c.high_word-2.ensures
     c.set_row.ensures
