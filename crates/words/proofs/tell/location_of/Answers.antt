@@ -12,4 +12,4 @@ returns-then-w-gt-DIGITS c = sym (too_long c.args.w.now (omega arith))
 
 pub returns : goal.returns
 returns c =
-    c.value_of_lem.ensures ∙ right_length c.args.w.now c.if-w-eq0.false (omega arith)
+    c.value_of.ensures ∙ right_length c.args.w.now c.if-w-eq0.false (omega arith)

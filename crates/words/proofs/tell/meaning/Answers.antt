@@ -4,19 +4,19 @@ use Rattle.words.proofs.Telling.{says_itself, says_access, says_location, says_o
 use Rattle.words.proofs.tell.meaning.Goals as goal
 
 pub returns-then-code-ne-OTHER : goal.returns-then-code-ne-OTHER
-returns-then-code-ne-OTHER c = says_itself _ c.code_of_lem.ensures c.if-code-ne-OTHER.true
+returns-then-code-ne-OTHER c = says_itself _ c.code_of-code.ensures c.if-code-ne-OTHER.true
 
 pub returns-then-kind-ne-PLAIN : goal.returns-then-kind-ne-PLAIN
 returns-then-kind-ne-PLAIN c =
-    says_access _ c.code_of_lem.ensures c.if-code-ne-OTHER.false (c.wide.ensures.0 ∙ c.Access-of.ensures)
+    says_access _ c.code_of-code.ensures c.if-code-ne-OTHER.false (c.wide.ensures.0 ∙ c.access_of-kind.ensures)
     (λ z. c.if-kind-ne-PLAIN.true (sym c.wide.ensures.0 ∙ z))
 
 pub returns-then-n-ne-NOWHERE : goal.returns-then-n-ne-NOWHERE
 returns-then-n-ne-NOWHERE c =
-    says_location _ c.code_of_lem.ensures c.if-code-ne-OTHER.false c.Access-of.ensures c.if-kind-ne-PLAIN.false
+    says_location _ c.code_of-code.ensures c.if-code-ne-OTHER.false c.access_of-kind.ensures c.if-kind-ne-PLAIN.false
     c.location_of-n.ensures c.if-n-ne-NOWHERE.true
 
 pub returns : goal.returns
 returns c =
-    says_other _ c.code_of_lem.ensures c.if-code-ne-OTHER.false c.Access-of.ensures c.if-kind-ne-PLAIN.false
+    says_other _ c.code_of-code.ensures c.if-code-ne-OTHER.false c.access_of-kind.ensures c.if-kind-ne-PLAIN.false
     c.location_of-n.ensures c.if-n-ne-NOWHERE.false
