@@ -3,13 +3,12 @@ use mathlib.Core.Path.{◌≡◌, ◌∙◌}
 use mathlib.Core.List.{List}
 use Prim.Native.Nat.{ℕ, suc, ◌+◌, ◌*◌, ◌-◌, ◌/◌, ◌%◌, ◌<◌}
 use native.Mathlib.Omega.{arith}
-use borrow.Table.Row as Row
 use Rattle.listing.specs.Kinds.{KINDS}
 use Rattle.order.specs.Need.{QUESTIONS, Asked, question, entry}
 use Rattle.order.specs.Inner.Table.{number_of}
 use Rattle.order.proofs.Tables.{right_at}
+use Rattle.order.specs.declared.table.TheConstants.{NEED}
 use Rattle.order.proofs.table.need.Goals as goal
-use Rattle.order.proofs.table.need.Goals.{Start}
 
 -- how many entries there are
 abbrev ENTRIES : ℕ
@@ -29,13 +28,9 @@ place q j k h hj hk =
     let g : i % 10 ≡ k = omega arith in
     λ t. number_of (entry (question (e t)) (f t) (g t))
 
--- the table, taken from the code where it is read: local 9
-abbrev table : Start → List ℕ
-table c = Row.get 9 (lts.T20).locals (lts.m19 reads.Pre reads.Post c.args c.blocks)
-
 pub returns : goal.returns
 unfolding ruled
 returns c =
     let a = c.args in
-    right_at ruled ENTRIES (table c) tt (((a.question - 1) * KINDS + a.first) * KINDS + a.second) (omega arith)
+    right_at ruled ENTRIES NEED tt (((a.question - 1) * KINDS + a.first) * KINDS + a.second) (omega arith)
     ∙ place a.question a.first a.second c.requires.0 c.requires.1 c.requires.2
