@@ -1,0 +1,24 @@
+-- `lines::number` meets its contract.
+use mathlib.Core.Path.{◌≡◌, sym, subst, ◌∙◌}
+use mathlib.Core.List.{List}
+use Prim.Native.Nat.{ℕ, ◌+◌, ◌≤◌}
+use lib.ListN.{length, take}
+use Rattle.lines.specs.Text.{decimal}
+use Rattle.lines.specs.Inner.Put.{Put}
+use Rattle.lines.proofs.Decimal.{written}
+use Rattle.lines.proofs.number.Goals as goal
+use Rattle.lines.proofs.number.Goals.{After-decimal-k}
+
+-- what `io::decimal` wrote is the number
+spelled : (m : After-decimal-k) → take m.decimal-k.result m.decimal-k.new.out ≡ decimal m.args.n
+spelled m = m.decimal-k.ensures.digits ∙ written _ _ m.ranges.n.fits m.decimal-k.ensures.len
+
+pub words-requires : goal.words-requires
+words-requires c =
+    let a = c.args in
+    subst (λ (t : List ℕ). a.at + length t ≤ length a.line.now) (sym (spelled (goal.at.words-requires c).After-decimal-k)) c.requires
+
+pub returns : goal.returns
+returns c =
+    let a = c.args in
+    subst (λ (t : List ℕ). Put a.line.now a.at t c.words.new.line c.words.result) (spelled (goal.at.returns c).After-decimal-k) c.words.ensures
