@@ -6,7 +6,7 @@ use Prim.Native.Nat.{ℕ, ◌+◌, ◌≤◌, ◌<◌}
 use native.Mathlib.Omega.{arith}
 use native.Mathlib.Decide.{dec_lt}
 use borrow.Author.Count.{below_more}
-use Rattle.rows.specs.Inner.Rows.{at, Has, Holds, Low, Blank}
+use Rattle.rows.specs.Inner.Rows.{Has, Holds, Low, Blank}
 use Rattle.rows.specs.Inner.Touched.{Added, Poured, Alike}
 use Rattle.rows.specs.Inner.Growing.{RowGrown, RowsDone}
 use Rattle.rows.proofs.Growing.{grown_empty, grown_map, grown_pour, grown_copy}

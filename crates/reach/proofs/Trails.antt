@@ -6,7 +6,7 @@ use Prim.Native.Nat.{ℕ, ◌+◌, ◌≤◌, ◌<◌}
 use native.Mathlib.Omega.{arith}
 use native.Mathlib.Decide.{dec_lt}
 use Rattle.order.specs.Rows.{All, Row}
-use Rattle.rows.specs.Inner.Rows.{at, Has, Holds, Low, Link}
+use Rattle.rows.specs.Inner.Rows.{Has, Holds, Low, Link}
 use Rattle.reach.specs.Inner.Whole.{Through, Passed}
 
 -- ---- trails, over any links and any mask

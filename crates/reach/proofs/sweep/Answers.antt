@@ -1,0 +1,17 @@
+use native.Mathlib.Omega.{arith}
+use mathlib.Core.Path.{refl}
+use mathlib.Core.Logic.{inl, inr}
+use Prim.Native.Nat.{◌<◌, ◌-◌}
+use Rattle.listing.specs.Bytes.{count_n, nodes_of}
+use Rattle.listing.proofs.Nodes.{nodes_length}
+use Rattle.reach.proofs.Sweeps.{begun_pull}
+use Rattle.reach.proofs.sweep.Goals as goal
+
+pub loop-a-preserved : goal.loop-a-preserved
+loop-a-preserved c =
+    let inv = c.loop-a.invariant in
+    let bytes = c.args.bytes.now in
+    let h : c.loop-a.a - 1 < count_n bytes = omega arith in
+    let pulled = begun_pull (nodes_of bytes) c.args.m.now (count_n bytes) c.requires.0.few (nodes_length bytes) in
+    let one = pulled _ _ _ _ h (inl refl) inv.3 (rw (inv.0, c.first_at.ensures) at c.pull.ensures) in
+    (inv.0, inv.1, omega arith, pulled _ _ _ _ h (inr refl) one (rw (inv.0, c.second_at.ensures) at c.pull-in-loop-a.ensures))
