@@ -1,0 +1,34 @@
+use mathlib.Core.Path.{ap, ◌∙◌}
+use Prim.Native.Nat.{ℕ, ◌+◌, ◌≤◌, ◌<◌}
+use native.Mathlib.Omega.{arith}
+use lib.ListN.{length, drop}
+use Rattle.listing.specs.Bytes.{record_at, nodes_of}
+use Rattle.listing.proofs.Nodes.{nodes_length}
+use Rattle.order.specs.Patched.{places}
+use Rattle.fencing.specs.Marks.{marks_of}
+use Rattle.fencing.proofs.Marks.{marks_length, places_next, places_end}
+use Rattle.fencing.proofs.Putting.{fence_put, fences_put}
+use Rattle.fencing.proofs.put_fences.Goals as goal
+
+pub loop-i-preserved : goal.loop-i-preserved
+loop-i-preserved c =
+    let inv = c.loop-i.invariant in
+    let p = c.put_fence-at in
+    let a = c.args in
+    let ms = marks_of a.map.now in
+    let node_in : c.loop-i.i < length (nodes_of a.s.now) = omega (arith, nodes_length a.s.now) in
+    let mark-in : c.loop-i.i < length ms = omega (arith, marks_length a.map.now) in (
+      inv.0,
+      omega arith,
+      ap (λ (k : ℕ). k + places (drop (c.loop-i.i + 1) ms)) p.ensures.0 ∙ places_next ms c.loop-i.i c.loop-i.at mark-in ∙ inv.2,
+      p.auto.out ∙ inv.3,
+      fence_put (nodes_of a.s.now) ms c.loop-i.i node_in mark-in c.loop-i.out c.loop-i.at p.ensures.0 p.ensures.1 inv.4,
+    )
+
+pub returns : goal.returns
+returns c =
+    let at = c.loop-i in
+    let a = c.args in
+    let past : length (nodes_of a.s.now) ≤ at.i = omega (arith, nodes_length a.s.now) in
+    let none_left = places_end a.map.now at.i (omega arith) in
+    (omega arith, fences_put (nodes_of a.s.now) (marks_of a.map.now) (record_at at.at) at.i past at.invariant.4)
