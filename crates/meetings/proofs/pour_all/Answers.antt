@@ -1,3 +1,4 @@
+-- What the search leaves of `meetings::pour_all`.
 use native.Mathlib.Omega.{arith}
 use mathlib.Core.Logic.{⊎_elim}
 use Prim.Native.Nat.{◌-◌}
