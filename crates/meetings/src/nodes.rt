@@ -8,7 +8,7 @@ ghost use Rattle.meetings.specs.Inner.Picked.{picked};
 
 // Which nodes to gather: all; accesses; writes and RMWs; those of one kind; those that a pair can start with for the fence to look at it,
 // and those that it can't end with; those that are no barrier for such pairs.
-#[derive(Drop)]
+#[derive(Clone, Copy)]
 pub enum Pick {
     Every,
     Access,

@@ -1,3 +1,4 @@
+-- What the search leaves of `chains::descend`.
 use native.Mathlib.Omega.{arith}
 use Rattle.chains.proofs.Going.{mid_low, going_more, going_all}
 use Rattle.chains.proofs.descend.Goals as goal

@@ -1,3 +1,4 @@
+-- What the search leaves of `chains::mark`.
 use Rattle.chains.proofs.Starting.{started}
 use Rattle.chains.proofs.mark.Goals as goal
 

@@ -1,3 +1,4 @@
+-- What the search leaves of `fencing::places`.
 use native.Mathlib.Omega.{arith}
 use Rattle.fencing.proofs.Marks.{places_end}
 use Rattle.fencing.proofs.places.Goals as goal

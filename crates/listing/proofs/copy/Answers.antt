@@ -1,3 +1,4 @@
+-- What the search leaves of `listing::copy`.
 use mathlib.Core.Path.{◌∙◌}
 use Prim.Native.Nat.{◌-◌}
 use Rattle.listing.proofs.Stores.{fills, all_copied}

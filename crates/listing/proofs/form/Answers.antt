@@ -1,3 +1,4 @@
+-- What the search leaves of `listing::form`.
 use mathlib.Core.Path.{◌≡◌, ◌∙◌}
 use Prim.Native.Nat.{◌-◌}
 use Rattle.listing.specs.Rules.{first_of, passed}

@@ -1,3 +1,4 @@
+-- What the search leaves of `reach::close`.
 use borrow.Author.Rules.{rules}
 use native.Mathlib.Omega.{arith}
 use mathlib.Core.Path.{◌≡◌}

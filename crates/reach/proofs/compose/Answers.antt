@@ -1,3 +1,4 @@
+-- What the search leaves of `reach::compose`.
 use native.Mathlib.Omega.{arith}
 use Rattle.rows.proofs.Growing.{rows_more}
 use Rattle.reach.proofs.Steps.{then_copy}

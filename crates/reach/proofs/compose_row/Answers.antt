@@ -1,3 +1,4 @@
+-- What the search leaves of `reach::compose_row`.
 use Rattle.reach.proofs.Steps.{then_jump, then_pour}
 use Rattle.reach.proofs.compose_row.Goals as goal
 

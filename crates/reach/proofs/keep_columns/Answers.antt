@@ -1,3 +1,4 @@
+-- What the search leaves of `reach::keep_columns`.
 use native.Mathlib.Omega.{arith}
 use Rattle.reach.proofs.Thinned.{thinned_more, sifts}
 use Rattle.reach.proofs.keep_columns.Goals as goal

@@ -1,3 +1,4 @@
+-- What the search leaves of `reach::pass`.
 use native.Mathlib.Omega.{arith}
 use Prim.Native.Nat.{◌<◌}
 use Rattle.reach.proofs.Rounds.{passed_skip, passed_or}

@@ -1,3 +1,4 @@
+-- What the search leaves of `reach::sweep`.
 use native.Mathlib.Omega.{arith}
 use mathlib.Core.Path.{refl}
 use mathlib.Core.Logic.{inl, inr}

@@ -1,3 +1,4 @@
+-- What the search leaves of `reach::walks`.
 use Rattle.listing.specs.Bytes.{nodes_of}
 use Rattle.listing.proofs.Nodes.{nodes_length}
 use Rattle.reach.proofs.Sweeps.{settled_walks, closed_walks}

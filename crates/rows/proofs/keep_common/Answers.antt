@@ -1,3 +1,4 @@
+-- What the search leaves of `rows::keep_common`.
 use native.Mathlib.Omega.{arith}
 use Prim.Native.Nat.{◌-◌}
 use Rattle.rows.proofs.AllWords.{common}

@@ -1,3 +1,4 @@
+-- What the search leaves of `words::skip`.
 use mathlib.Core.Path.{sym, ◌∙◌}
 use Prim.Native.Nat.{◌-◌}
 use native.Mathlib.Omega.{arith}

@@ -1,3 +1,4 @@
+-- What the search leaves of `reader::search::trail`.
 use mathlib.Core.Path.{◌∙◌, sym}
 use Rattle.listing.specs.Bytes.{nodes_of}
 use Rattle.listing.proofs.Nodes.{nodes_length}

@@ -1,3 +1,4 @@
+-- What the search leaves of `words::tell::is`.
 use mathlib.Core.Path.{sym}
 use Prim.Native.Nat.{◌-◌}
 use Rattle.words.proofs.Compared.{lengths_differ}
