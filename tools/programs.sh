@@ -3,7 +3,7 @@
 # shellcheck shell=sh disable=SC2154
 
 programs='judge propose fence show accept typed'
-loader='' # what find_kit finds, never what the environment has
+kit='' # what find_kit finds, never what the environment has
 
 # What is said must not change what is answered: where standard error is full, the exit status still counts.
 say() { printf '%s\n' "$*" >&2 2>/dev/null || :; }
@@ -24,27 +24,30 @@ prepare() {
     built || { alone && { built || build; }; } 9<"$root/crates.txt"
 }
 
+# Sets kit to the line that names the kit.
 find_kit() {
     if ! command -v rt >/dev/null 2>&1; then
         complain "the command 'rt' of the Rattle kit is not on the PATH, and the programs are proved and built with it." \
             "put the kit's bin folder on the PATH, then try again." || return
     fi
-    guide=$(rt doc) || return 2
-    kit=${guide%/docs/*}
-    machine=$kit/on/$(uname -m)/toolchain
-    loader=$machine/lib/ld-linux-x86-64.so.2
-    # the programs are for x86-64; for another processor the kit has an emulator, and rt runs them so too
-    emulator=$machine/bin/qemu-x86_64
-    [ -x "$emulator" ] || emulator=''
+    # what rt version prints, which takes a while
+    kit=$(cat -- "$(dirname -- "$(dirname -- "$(readlink -f -- "$(command -v rt)")")")/KIT-ID" 2>/dev/null) || kit=$(rt version) || return 2
 }
 
-# Whether the programs stand and nothing that they are made from is newer.
+# Whether the programs stand, this kit proved them, and nothing that they are made from is newer than the beginning of that proof.
 built() {
     for program in $programs; do
         [ -f "$root/target/bin/$program" ] || return 1
     done
-    [ -f "$root/target/first-use" ] && cmp -s "$kit/KIT-ID" "$root/target/first-use" || return 1
-    [ -z "$(find "$root/crates" "$root/crates.txt" -newer "$root/target/first-use" | head -n 1)" ]
+    [ "$kit" = "$(cat "$root/target/first-use" 2>/dev/null)" ] && [ -z "$(newer_than target/first-use)" ]
+}
+
+# What was made or removed in the crates since. rt makes and removes their out/ itself.
+newer_than() { # FILE
+    (
+        cd "$root" &&
+            find crates crates.txt -path 'crates/*/out' -prune -o \( -type f -o -path 'crates/*/*' \) -newer "$1" -print
+    ) | head -n 1
 }
 
 # ---- proving and building
@@ -62,7 +65,7 @@ build() {
     log=$root/target/first-use.log begun=$root/target/first-use.begun proof=''
     say "First use: proving the judge and building its programs. This takes minutes, once. The log: $log"
     # made before the proof starts, so that a file changed meanwhile is newer
-    if ! { mkdir -p "$root/target" && cat "$kit/KIT-ID" >"$begun" && true >"$log"; } 2>/dev/null; then
+    if ! { mkdir -p "$root/target" && printf '%s\n' "$kit" >"$begun" && true >"$log"; } 2>/dev/null; then
         rm -f "$begun"
         complain "the folder $root/target cannot be written." 'make room there, or ask its owner for leave to write.' || return
     fi
@@ -73,15 +76,27 @@ build() {
     proved=$?
     trap - HUP INT TERM
     [ "$proved" -eq 0 ] || unproved || return
-    mv -f "$begun" "$root/target/first-use" || return 2
+    put_programs "$begun" || return 2
     say 'Proved and built.'
     say
 }
 
+# Puts the programs where run finds them, from where rt leaves what it proved and built.
+put_programs() { # BEGUN: has the kit's line, and was made before the proof began
+    mkdir -p "$root/target/bin" || return
+    for program in $programs; do
+        new=$root/target/bin/$program.new
+        cp -- "$root/crates/$program/out/$program" "$new" && mv -f -- "$new" "$root/target/bin/$program" || return
+    done
+    mv -f -- "$1" "$root/target/first-use"
+}
+
 # Runs rt and says what is proved meanwhile. It has a group of its own where setsid is there, so that halt ends all of it.
 prove() {
-    # shellcheck disable=SC2046,SC2086  # no word where there is no setsid; a word a program
-    (cd "$root" && exec $(command -v setsid) rt check $programs) </dev/null >"$log" 2>&1 &
+    # rt builds a program to run it: on no input, which each answers with a refusal
+    # shellcheck disable=SC2016,SC2046,SC2086  # the inner shell's own; no word where there is no setsid; a word a program
+    (cd "$root" && exec $(command -v setsid) sh -c 'for program; do (cd "crates/$program" && rt run) || exit; done' - $programs) \
+        </dev/null 2>"$log" >/dev/null &
     proof=$!
     shown=0 crates=$(crate_count)
     while kill -0 "$proof" 2>/dev/null; do
@@ -111,9 +126,9 @@ crate_count() {
         }' "$root/crates.txt"
 }
 
-# A line for each crate proved since the last look.
+# A line for each crate proved since the last look: rt names a crate when its check begins, and says how that ended.
 progress() {
-    for crate in $(sed -n 's/^rt: \([A-Za-z0-9_]*\) proved (.*/\1/p' "$log" | tail -n "+$((shown + 1))"); do
+    for crate in $(awk '/^rt: chose .* for / { crate = $NF } /^logic=proved / { print crate }' "$log" | tail -n "+$((shown + 1))"); do
         shown=$((shown + 1))
         say "proved: $crate ($shown of $crates)"
     done
@@ -137,7 +152,7 @@ halt() { # STATUS
 # ---- running
 
 run() { # PROGRAM, its input on standard input
-    ${emulator:+"$emulator"} "$loader" --library-path "$machine/lib" "$root/target/bin/$1"
+    "$root/target/bin/$1"
 }
 
 # A shell variable holds no zero byte, so bytes are kept as octal numbers of three digits.

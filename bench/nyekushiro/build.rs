@@ -11,7 +11,7 @@ fn main() {
     println!("cargo:rerun-if-changed={}", archive.display());
     if !archive.is_file() {
         eprintln!(
-            "no archive at {}: run `rt staticlib nyekushiro`, or set NYEKUSHIRO_ARCHIVE_DIR to the folder that has libnyekushiro.a, \
+            "no archive at {}: run `tools/archive`, or set NYEKUSHIRO_ARCHIVE_DIR to the folder that has libnyekushiro.a, \
              as PREFIX/lib after `tools/install PREFIX`",
             archive.display()
         );

@@ -1,7 +1,7 @@
 //! The proved judge of memory fences, for Rust: a [`Question`] and bytes in, an [`Answer`] or a [`Refusal`] out.
 //!
 //! What each service answers is proved to be what the rules (docs/RULES.md) give; docs/LISTING.md has the format of a listing. The
-//! archive that answers is for x86-64 Linux. `rt staticlib nyekushiro` builds it, or NYEKUSHIRO_ARCHIVE_DIR says where it stands,
+//! archive that answers is for x86-64 Linux. `tools/archive` builds it, or NYEKUSHIRO_ARCHIVE_DIR says where it stands,
 //! as PREFIX/lib after `tools/install PREFIX`.
 //!
 //! ```
