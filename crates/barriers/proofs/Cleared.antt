@@ -48,7 +48,8 @@ module _ (q : ℕ) {L : Listing} {n : ℕ} (few : Counted L n) where
     same : (xs : List ℕ) → All (λ c. T (bars_with (question q) its (kind_at L c)) → ⊥) xs ↔ Unbarred q L a b xs
     same xs = (
       λ u. in_all (λ c. T (bars (question q) (kind_at L a) (kind_at L b) (kind_at L c)) → ⊥) xs (λ c i t.
-          all_in (λ c. T (bars_with (question q) its (kind_at L c)) → ⊥) xs u c i (subst T (bars_one (question q) (kind_at L a) (kind_at L b) (kind_at L c)) t)),
+          all_in (λ c. T (bars_with (question q) its (kind_at L c)) → ⊥) xs u c i
+          (subst T (bars_one (question q) (kind_at L a) (kind_at L b) (kind_at L c)) t)),
       λ u. in_all (λ c. T (bars_with (question q) its (kind_at L c)) → ⊥) xs (λ c i t.
           all_in (λ c. T (bars (question q) (kind_at L a) (kind_at L b) (kind_at L c)) → ⊥) xs u c i
           (subst T (sym (bars_one (question q) (kind_at L a) (kind_at L b) (kind_at L c))) t)),

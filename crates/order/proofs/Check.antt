@@ -195,7 +195,8 @@ module _ (q : ℕ) (L : Listing) where
       where
         each : T (every (later? q L p) (all_ends L)) ↔ All Later (all_ends L)
         each = every_checked (later? q L p) Later
-            (λ x. one_checked (not (before? x p)) _ (not_checked (before? x p) (before_checked x p)) (not_checked (fails? q L x) (fails_checked x))) (all_ends L)
+            (λ x. one_checked (not (before? x p)) _ (not_checked (before? x p) (before_checked x p)) (not_checked (fails? q L x) (fails_checked x)))
+            (all_ends L)
 
         first : (x : Ends) → Fails q L x.0 x.1 → Later x → Before x p → ⊥
         first x f (inl n) = n

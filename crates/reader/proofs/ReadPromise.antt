@@ -20,7 +20,8 @@ unfolding read_of
 read_refused s r k p e is = met_refusal (first_of (read_rules s)) (count_n s) (count_f s) r e k p is
 
 -- what a caller that met a good listing learns
-pub read_good : (s : List ℕ) (r : ReadAnswer) (l : Listing) → read_says r ≡ read_of s → r ≡ Good l → Admitted s × (l.nodes ≡ count_n s) × (l.routines ≡ count_f s)
+pub read_good : (s : List ℕ) (r : ReadAnswer) (l : Listing) → read_says r ≡ read_of s → r ≡ Good l → Admitted s × (l.nodes ≡ count_n s) ×
+    (l.routines ≡ count_f s)
 unfolding read_of
 read_good s r l e is = met_good (first_of (read_rules s)) (count_n s) (count_f s) r e l is
 

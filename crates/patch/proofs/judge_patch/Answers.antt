@@ -25,7 +25,8 @@ returns-then-wrong_question c = wrongly_asked _ _ _ _ _ (sym c.wrong_question.en
 
 pub returns-then-chain-lt-CHAIN_BYTES : goal.returns-then-chain-lt-CHAIN_BYTES
 returns-then-chain-lt-CHAIN_BYTES c =
-    chain_too_short _ _ _ _ _ (asked (goal.at.returns-then-chain-lt-CHAIN_BYTES c).Else-wrong_question) (passes (goal.at.returns-then-chain-lt-CHAIN_BYTES c).In-Passed) c.if-chain-lt-CHAIN_BYTES.true refl
+    let p = goal.at.returns-then-chain-lt-CHAIN_BYTES c in
+    chain_too_short _ _ _ _ _ (asked p.Else-wrong_question) (passes p.In-Passed) c.if-chain-lt-CHAIN_BYTES.true refl
 
 pub overflow_cast-question : goal.overflow_cast-question
 overflow_cast-question c =
@@ -43,4 +44,5 @@ returns-in-Refused c =
 
 pub returns-else-chain-lt-CHAIN_BYTES : goal.returns-else-chain-lt-CHAIN_BYTES
 returns-else-chain-lt-CHAIN_BYTES c =
-    told_with_map _ _ _ _ _ (asked (goal.at.returns-else-chain-lt-CHAIN_BYTES c).Else-wrong_question) _ (passes (goal.at.returns-else-chain-lt-CHAIN_BYTES c).In-Passed) c.if-chain-lt-CHAIN_BYTES.false c.judge_checked.ensures
+    let p = goal.at.returns-else-chain-lt-CHAIN_BYTES c in
+    told_with_map _ _ _ _ _ (asked p.Else-wrong_question) _ (passes p.In-Passed) c.if-chain-lt-CHAIN_BYTES.false c.judge_checked.ensures

@@ -11,6 +11,10 @@ loop-x-preserved c =
     let done = c.loop-x.invariant.1 in
     let same = c.earlier-y.ensures.same in
     elim c.if-y-x.branch [
-      | then-y-x q ↦ (omega arith, rw q.v-is (rows_more _ _ _ _ _ hn done (then_copy _ _ _ _ _ _ _ hn q.if-y-x.true (same q.if-y-x.true) done q.or_row.ensures)))
+      | then-y-x q ↦ (
+        omega arith,
+        rw q.v-is (rows_more _ _ _ _ _ hn done
+            (then_copy _ _ _ _ _ _ _ hn q.if-y-x.true (same q.if-y-x.true) done q.or_row.ensures)),
+      )
       | else-y-x q ↦ (omega arith, rw q.v-is (rows_more _ _ _ _ _ hn done q.compose_row.ensures))
     ]

@@ -21,7 +21,8 @@ returns-then-wrong_question c = judge_refused _ _ _ 1 0 (judge_1 _ _ _ (sym c.wr
 
 pub returns-then-chain-lt-CHAIN_BYTES : goal.returns-then-chain-lt-CHAIN_BYTES
 returns-then-chain-lt-CHAIN_BYTES c =
-    judge_refused _ _ _ 16 0 (judge_16 _ _ c.args.chain.now (asked (goal.at.returns-then-chain-lt-CHAIN_BYTES c).Else-wrong_question) (admitted (goal.at.returns-then-chain-lt-CHAIN_BYTES c).In-Good) c.if-chain-lt-CHAIN_BYTES.true)
+    let p = goal.at.returns-then-chain-lt-CHAIN_BYTES c in
+    judge_refused _ _ _ 16 0 (judge_16 _ _ c.args.chain.now (asked p.Else-wrong_question) (admitted p.In-Good) c.if-chain-lt-CHAIN_BYTES.true)
 
 pub overflow_cast-question : goal.overflow_cast-question
 overflow_cast-question c =
@@ -30,12 +31,15 @@ overflow_cast-question c =
 
 pub decide-requires : goal.decide-requires
 decide-requires c =
-    (question_in _ (asked (goal.at.decide-requires c).Else-wrong_question), admitted_whole _ (admitted (goal.at.decide-requires c).In-Good), c.if-chain-lt-CHAIN_BYTES.false)
+    let p = goal.at.decide-requires c in
+    (question_in _ (asked p.Else-wrong_question), admitted_whole _ (admitted p.In-Good), c.if-chain-lt-CHAIN_BYTES.false)
 
 pub returns-in-Refused : goal.returns-in-Refused
 returns-in-Refused c =
-    judge_refused _ _ _ _ _ (judge_listing _ _ _ _ _ (asked (goal.at.returns-in-Refused c).Else-wrong_question) (read_refused _ _ _ _ c.read.ensures c.in-Refused.is))
+    let p = goal.at.returns-in-Refused c in
+    judge_refused _ _ _ _ _ (judge_listing _ _ _ _ _ (asked p.Else-wrong_question) (read_refused _ _ _ _ c.read.ensures c.in-Refused.is))
 
 pub returns-else-chain-lt-CHAIN_BYTES : goal.returns-else-chain-lt-CHAIN_BYTES
 returns-else-chain-lt-CHAIN_BYTES c =
-    judge_told _ _ _ _ _ (judge_passes _ _ _ (asked (goal.at.returns-else-chain-lt-CHAIN_BYTES c).Else-wrong_question) (admitted (goal.at.returns-else-chain-lt-CHAIN_BYTES c).In-Good) c.if-chain-lt-CHAIN_BYTES.false) c.decide.ensures
+    let p = goal.at.returns-else-chain-lt-CHAIN_BYTES c in
+    judge_told _ _ _ _ _ (judge_passes _ _ _ (asked p.Else-wrong_question) (admitted p.In-Good) c.if-chain-lt-CHAIN_BYTES.false) c.decide.ensures

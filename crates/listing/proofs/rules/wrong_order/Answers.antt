@@ -28,9 +28,11 @@ returns-then-second c = simp (second-read (goal.at.returns-then-second c).After-
 pub returns-then-first : goal.returns-then-first
 unfolding wrong_order
 returns-then-first c =
-    simp (first_read (goal.at.returns-then-first c).After-second_at-second, second-read (goal.at.returns-then-first c).After-second_at-second, ne_eqb _ _ c.if-second.false, eq-eqb _ _ c.if-first.true)
+    let p = goal.at.returns-then-first c in
+    simp (first_read p.After-second_at-second, second-read p.After-second_at-second, ne_eqb _ _ c.if-second.false, eq-eqb _ _ c.if-first.true)
 
 pub returns : goal.returns
 unfolding wrong_order
 returns c =
-    simp (first_read (goal.at.returns c).After-second_at-second, second-read (goal.at.returns c).After-second_at-second, ne_eqb _ _ c.if-second.false, ne_eqb _ _ c.if-first.false) refl
+    let p = goal.at.returns c in
+    simp (first_read p.After-second_at-second, second-read p.After-second_at-second, ne_eqb _ _ c.if-second.false, ne_eqb _ _ c.if-first.false) refl
