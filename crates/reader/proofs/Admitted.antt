@@ -67,7 +67,7 @@ module _ (s : List ℕ) where
 
       -- a successor that is a node is of the same routine
       goes : (a x y : ℕ) → y < length (nodes_of s) → x ≡ y → Goes (nodes_of s) (node (nodes_of s) a) x → (node (nodes_of s) y).routine ≡
-      (node (nodes_of s) a).routine
+          (node (nodes_of s) a).routine
       goes a x y l same (inl none) = let few = (formed_whole s e).few in absurd (omega (arith, few, nodes_length s, same, none))
       goes a x y l same (inr g) = subst (λ (z : ℕ). (node (nodes_of s) z).routine ≡ (node (nodes_of s) a).routine) same g.1
 

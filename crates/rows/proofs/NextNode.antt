@@ -39,7 +39,7 @@ module _ (w : List ℕ) (a b n : ℕ) (hb : b < n) (hn : n ≤ 128) where
       before z k l q (no d) = o.none (z - 64) (omega arith) (omega arith) (sym (at_high w a z (omega arith) (omega arith)) ∙ q)
 
   pub next_over : (i r : ℕ) → Least (IsSet (low_word w a)) b 64 i → 64 ≤ i → b < 64 → Least (IsSet (high_word w a)) 0 64 r → Least (Has w a) b n
-  (min (r + 64) n)
+      (min (r + 64) n)
   next_over i r o h l = next_high 0 r (omega arith) (λ z k g q. o.none z k (omega arith) (sym (at_low w a z (omega arith)) ∙ q))
 
   pub next_above : (r : ℕ) → 64 ≤ b → Least (IsSet (high_word w a)) (b - 64) 64 r → Least (Has w a) b n (min (r + 64) n)
