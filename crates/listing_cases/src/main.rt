@@ -232,8 +232,7 @@ fn put_plain(out: &mut [u8; TOO_LONG], n: u8)
     ensures { record_at (NODES + 1) ≡ length out.new }
 {
     listing::put_heading(&mut *out, 1, 1, n);
-    let mut i: usize = 0;
-    while i < Listing::NODES {
+    for i in 0..Listing::NODES {
         let next = (i + 1) % Listing::NODES;
         listing::put_record(
             &mut *out,
@@ -244,7 +243,6 @@ fn put_plain(out: &mut [u8; TOO_LONG], n: u8)
             next as u8,
             listing::NONE,
         );
-        i += 1;
     }
 }
 
