@@ -4,6 +4,9 @@
 mod nodes;
 mod words;
 
+ghost use Rattle.std.specs.Prelude.{OnOk};
+ghost use Rattle.std.specs.Io.KnownBytes.{Appends};
+
 use listing::Listing;
 pub use nodes::shown;
 use patch::ProposeAnswer;
@@ -13,7 +16,9 @@ use std::io::Write;
 use verdict::{CHAIN_BYTES, JudgeAnswer};
 pub use words::explained;
 
-pub fn text<W: Write>(to: &mut W, words: &[u8]) -> io::Result<()> {
+pub fn text<W: Write>(to: &mut W, words: &[u8]) -> io::Result<()>
+    ensures { OnOk result (Appends (W.contents to.old) (W.contents to.new) words.now) }
+{
     to.write_all(words)
 }
 
