@@ -2,12 +2,13 @@
 // after each of these nodes, and writes one line: ACCEPTED, or the judge's answer.
 #![tactic(auto)]
 
-use libc::{STDIN_FILENO, STDOUT_FILENO};
+use std::io;
+use std::io::Write;
 
-fn main() {
+fn main(rt: HostRuntime) -> io::Result<()> {
     let mut input = acceptance::room();
-    let n = io::read_full(STDIN_FILENO, &mut input);
+    let n = streams::read_full(&mut rt.stdin(), &mut input)?;
     let mut line = [0u8; say::LINE];
     let length = acceptance::accept(&input[..n], &mut line);
-    io::write_all(STDOUT_FILENO, &line[..length]);
+    rt.stdout().write_all(&line[..length])
 }

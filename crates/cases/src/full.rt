@@ -14,8 +14,7 @@ pub fn put_full(out: &mut [u8; Listing::LONGEST], n: u8)
     ensures { record_at NODES ≡ length out.new }
 {
     listing::put_heading(&mut *out, 1, 1, n);
-    let mut i: usize = 0;
-    while i < Listing::NODES {
+    for i in 0..Listing::NODES {
         let next = (i + 1) % Listing::NODES;
         listing::put_record(
             &mut *out,
@@ -26,6 +25,5 @@ pub fn put_full(out: &mut [u8; Listing::LONGEST], n: u8)
             next as u8,
             listing::NONE,
         );
-        i += 1;
     }
 }

@@ -7,7 +7,9 @@ mod judging;
 mod meeting;
 mod patching;
 
-fn main() {
+use std::io;
+
+fn main(rt: HostRuntime) -> io::Result<()> {
     let a = b"ORD\x01\x00\x02\x04\
       \x00\x02\x01\x00\x01\xFF\
       \x00\x01\x02\x00\xFF\xFF\
@@ -16,6 +18,7 @@ fn main() {
     let dead = b"ORD\x01\x00\x01\x02\
       \x00\x02\x01\x00\xFF\xFF\
       \x00\x02\x02\x00\xFF\xFF";
-    judging::judging(a, dead);
-    patching::patching(a, dead);
+    let mut out = rt.stdout();
+    judging::judging(&mut out, a, dead)?;
+    patching::patching(&mut out, a, dead)
 }

@@ -1,10 +1,10 @@
 // Reads a listing from standard input, and writes it for a person: a line a node, or why it is refused.
 #![tactic(auto)]
 
-use libc::STDIN_FILENO;
+use std::io;
 
-fn main() {
+fn main(rt: HostRuntime) -> io::Result<()> {
     let mut input = say::room();
-    let n = io::read_full(STDIN_FILENO, &mut input);
-    print::shown(&input[..n]);
+    let n = streams::read_full(&mut rt.stdin(), &mut input)?;
+    print::shown(&mut rt.stdout(), &input[..n])
 }

@@ -1,16 +1,18 @@
 // Reads a text from standard input and writes the listing's bytes, or the line `REFUSED number place`.
 #![tactic(auto)]
 
-use libc::{STDERR_FILENO, STDIN_FILENO, STDOUT_FILENO};
+use std::io;
+use std::io::Write;
 
-fn main() {
+fn main(rt: HostRuntime) -> io::Result<()> {
     let mut text = typing::room();
-    let n = io::read_full(STDIN_FILENO, &mut text);
+    let n = streams::read_full(&mut rt.stdin(), &mut text)?;
     if typing::TEXT < n {
-        io::write_all(STDERR_FILENO, b"typed: the text is longer than 1 MiB\n");
-        return;
+        return rt
+            .stderr()
+            .write_all(b"typed: the text is longer than 1 MiB\n");
     }
     let mut out = [0u8; say::LINE];
     let length = typing::typed(&text[..n], &mut out);
-    io::write_all(STDOUT_FILENO, &out[..length]);
+    rt.stdout().write_all(&out[..length])
 }
