@@ -1,3 +1,4 @@
+-- What the search leaves of `say::line::pairs`.
 use native.Mathlib.Omega.{arith}
 use Rattle.lines.proofs.Putting.{less_left, none_left}
 use Rattle.say.proofs.Pieces.{buffer_ends, pair_next}

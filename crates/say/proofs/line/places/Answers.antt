@@ -1,3 +1,4 @@
+-- What the search leaves of `say::line::places`.
 use native.Mathlib.Omega.{arith}
 use Rattle.lines.proofs.Putting.{less_left}
 use Rattle.say.proofs.Pieces.{place_next}
