@@ -11,7 +11,6 @@ use lib.Dec.{ltb, leb, eqb}
 use lib.Seq.{take_all, length-take-le}
 use Rattle.listing.specs.Limits.{NODES, HEADING}
 use Rattle.listing.specs.Kinds.{is_version}
-use Rattle.listing.specs.Node.{Listing}
 use Rattle.listing.specs.Bytes.{byte, version_of, count_n, record_at, nodes_of}
 use Rattle.listing.specs.Rules.{Rule, Refusal, passed, refused, first_of}
 use Rattle.listing.specs.Form.{wrong_mark, wrong_f, heading_rules, nodes_rules, form_rules}

@@ -1,5 +1,5 @@
 -- An input has one line: the promises of both programs' lines leave one answer and one content of the lent buffer.
-use mathlib.Core.Path.{◌≡◌, sym, subst, ◌∙◌}
+use mathlib.Core.Path.{◌≡◌, sym, subst}
 use mathlib.Core.List.{List, [], ◌∷◌}
 use Prim.Native.Nat.{ℕ}
 use Rattle.listing.specs.Node.{Listing}

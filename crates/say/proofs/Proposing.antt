@@ -12,7 +12,6 @@ use lib.Dec.{ltb}
 use Rattle.listing.specs.Limits.{NODES}
 use Rattle.listing.specs.Bytes.{byte, count_n}
 use Rattle.listing.specs.Rules.{Refusal, passed, refused, first_of}
-use Rattle.listing.specs.Answer.{filled}
 use Rattle.listing.proofs.Table.{stop}
 use Rattle.order.specs.Patched.{Marks, places}
 use Rattle.verdict.specs.Judging.{buffer_rules}

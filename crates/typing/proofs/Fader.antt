@@ -9,7 +9,7 @@ use Rattle.words.specs.Inner.Looking.{unread}
 use Rattle.listing.specs.Bytes.{bytes_of}
 use Rattle.lines.specs.Text.{decimal}
 use Rattle.grammar.specs.Tree.{Text, nothing, part, Block, one, also, access, block_size, block_nodes}
-use Rattle.grammar.specs.Inner.Reader.{parse, tree, bad}
+use Rattle.grammar.specs.Inner.Reader.{parse, tree}
 use Rattle.grammar.proofs.Places.{found_tree, found_bad}
 use Rattle.text.specs.Typing.{typed_rules, listing_of}
 use Rattle.typing.specs.Output.{TypedOutput, bad as bad-text, writes}

@@ -8,8 +8,8 @@ use lib.Seq.{take-append_seam}
 use borrow.Author.Tests.{ltb-false}
 use Rattle.listing.specs.Limits.{NODES}
 use Rattle.listing.specs.Bytes.{record_at}
-use Rattle.listing.specs.Rules.{passed, refused, first_of}
-use Rattle.listing.specs.Answer.{Answer, done, refusal, filled}
+use Rattle.listing.specs.Rules.{passed, first_of}
+use Rattle.listing.specs.Answer.{Answer, done, refusal}
 use Rattle.listing.proofs.Table.{none_applies}
 use Rattle.listing.proofs.RoundTrip.{bytes_length}
 use Rattle.grammar.specs.Tree.{Text, size_of, parts_of, nodes_of}

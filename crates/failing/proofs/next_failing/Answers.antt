@@ -1,3 +1,4 @@
+-- What the search leaves of `failing::next_failing`.
 use native.Mathlib.Omega.{arith}
 use mathlib.Core.Path.{sym}
 use Rattle.listing.specs.Bytes.{nodes_of}

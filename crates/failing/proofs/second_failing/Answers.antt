@@ -1,3 +1,4 @@
+-- What the search leaves of `failing::second_failing`.
 use Rattle.failing.proofs.Needing.{in_row}
 use Rattle.rows.proofs.Searching.{searched_first, searched_more}
 use Rattle.failing.proofs.second_failing.Goals as goal

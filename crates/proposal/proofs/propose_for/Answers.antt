@@ -12,6 +12,7 @@ room c = omega (arith, c.draw.auto.marks, c.node_count-n.ensures.1)
 
 pub returns : goal.returns
 returns c =
+    let p = goal.at.returns c in
     let a = c.args in
-    let map = drawn_proposed a.question a.bytes.now _ c.node_count-n.result c.node_count-n.ensures.0 (room (goal.at.returns c).After-node_count-n) c.draw.ensures in
+    let map = drawn_proposed a.question a.bytes.now _ c.node_count-n.result c.node_count-n.ensures.0 (room p.After-node_count-n) c.draw.ensures in
     (_, map, c.offer.ensures)

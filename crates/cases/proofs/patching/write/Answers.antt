@@ -1,0 +1,11 @@
+-- `cases::patching::write`: the length that write answers lies within its buffer.
+use Rattle.std.proofs.Common.{arith, sym, length-take-le}
+use Rattle.patch.proofs.ReadsBack.{length_within}
+use Rattle.cases.proofs.patching.write.Goals as goal
+
+pub slice_bounds-out-end : goal.slice_bounds-out-end
+slice_bounds-out-end g c = omega (arith, c.write.auto.out, length_within _ _ _ _ _ _ c.write.ensures c.in-Written.is)
+
+pub slice_bounds-shown-end : goal.slice_bounds-shown-end
+slice_bounds-shown-end g c =
+    sym (length-take-le _ c.write.new.out (omega (arith, c.write.auto.out, length_within _ _ _ _ _ _ c.write.ensures c.in-Written.is)))
