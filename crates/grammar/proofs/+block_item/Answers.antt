@@ -86,17 +86,17 @@ item-returns-then-code-eq-LOOP t c =
     c.block.new.at c.block.result c.block.ensures
 
 -- not a loop, so an either
-is-either : {k : ℕ} → Nests k → (k ≡ loop_code → ⊥) → k ≡ either_code
-is-either (inl e) h = absurd (h e)
-is-either (inr e) _ = e
+is_either : {k : ℕ} → Nests k → (k ≡ loop_code → ⊥) → k ≡ either_code
+is_either (inl e) h = absurd (h e)
+is_either (inr e) _ = e
 
 pub item-returns-then-block : goal.item-returns-then-block
 item-returns-then-block t c =
-    let e = is-either (nests t (goal.at.item-returns-then-block t c).Joined-code-ne-LOOP) c.if-code-eq-LOOP.false in
+    let e = is_either (nests t (goal.at.item-returns-then-block t c).Joined-code-ne-LOOP) c.if-code-eq-LOOP.false in
     item_either _ _ _ _ c.requires _ _ c.pass-2.ensures c.if-depth-eq0.false e c.block-2.new.at refl c.if-block.ensures
     c.block-then-block.new.at c.block-then-block.result c.block-then-block.ensures
 
 pub item-returns : goal.item-returns
 item-returns t c =
-    let e = is-either (nests t (goal.at.item-returns t c).Joined-code-ne-LOOP) c.if-code-eq-LOOP.false in
+    let e = is_either (nests t (goal.at.item-returns t c).Joined-code-ne-LOOP) c.if-code-eq-LOOP.false in
     first_bad _ _ _ _ c.requires _ _ c.pass-2.ensures c.if-depth-eq0.false e c.block-2.new.at c.if-block.ensures

@@ -6,9 +6,9 @@ use lib.Dec.{eqb}
 use Rattle.words.specs.Words.{is_blank}
 use Rattle.words.proofs.is_blank.Goals as goal
 
-by-third : (b : ℕ) → (b ≡ 0x20 → ⊥) → (b ≡ 0x0D → ⊥) → eqb b 0x0A ≡ is_blank b
+by_third : (b : ℕ) → (b ≡ 0x20 → ⊥) → (b ≡ 0x0D → ⊥) → eqb b 0x0A ≡ is_blank b
 unfolding is_blank
-by-third b p q = simp (ne_eqb _ _ p, ne_eqb _ _ q)
+by_third b p q = simp (ne_eqb _ _ p, ne_eqb _ _ q)
 
 pub returns-then-b-eq32 : goal.returns-then-b-eq32
 unfolding is_blank
@@ -19,4 +19,4 @@ unfolding is_blank
 returns-then-b-eq13 c = simp (ne_eqb _ _ c.if-b-eq32.false, eq-eqb _ _ c.if-b-eq13.true)
 
 pub returns : goal.returns
-returns c = by-third _ c.if-b-eq32.false c.if-b-eq13.false
+returns c = by_third _ c.if-b-eq32.false c.if-b-eq13.false

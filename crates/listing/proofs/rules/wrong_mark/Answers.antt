@@ -9,9 +9,9 @@ use lib.ListN.{get_or}
 use Rattle.listing.specs.Form.{wrong_mark}
 use Rattle.listing.proofs.rules.wrong_mark.Goals as goal
 
-by-third : (s : List ℕ) → get_or s 0 0 ≡ 0x4F → get_or s 1 0 ≡ 0x52 → not (eqb (get_or s 2 0) 0x44) ≡ wrong_mark s
+by_third : (s : List ℕ) → get_or s 0 0 ≡ 0x4F → get_or s 1 0 ≡ 0x52 → not (eqb (get_or s 2 0) 0x44) ≡ wrong_mark s
 unfolding wrong_mark
-by-third s p q = simp (eq-eqb _ _ p, eq-eqb _ _ q)
+by_third s p q = simp (eq-eqb _ _ p, eq-eqb _ _ q)
 
 pub returns-then-bytes-ne79 : goal.returns-then-bytes-ne79
 unfolding wrong_mark
@@ -22,4 +22,4 @@ unfolding wrong_mark
 returns-then-bytes-ne82 c = simp (eq-eqb _ _ c.if-bytes-ne79.false, ne_eqb _ _ c.if-bytes-ne82.true)
 
 pub returns : goal.returns
-returns c = by-third _ c.if-bytes-ne79.false c.if-bytes-ne82.false
+returns c = by_third _ c.if-bytes-ne79.false c.if-bytes-ne82.false

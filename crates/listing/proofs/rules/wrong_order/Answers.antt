@@ -15,24 +15,24 @@ first_read : (c : After-second_at-second)
 first_read c =
     sym (c.first_at-first.ensures ∙ ap (λ (n : Node). n.first) (nodes_at_lem c.args.bytes.now c.args.i c.requires.1))
 
-second-read : (c : After-second_at-second)
+second_read : (c : After-second_at-second)
     → let a = c.args in
     (node_at a.bytes.now a.i).second ≡ c.second_at-second.result
-second-read c =
+second_read c =
     sym (c.second_at-second.ensures ∙ ap (λ (n : Node). n.second) (nodes_at_lem c.args.bytes.now c.args.i c.requires.1))
 
 pub returns-then-second : goal.returns-then-second
 unfolding wrong_order
-returns-then-second c = simp (second-read (goal.at.returns-then-second c).After-second_at-second, eq-eqb _ _ c.if-second.true)
+returns-then-second c = simp (second_read (goal.at.returns-then-second c).After-second_at-second, eq-eqb _ _ c.if-second.true)
 
 pub returns-then-first : goal.returns-then-first
 unfolding wrong_order
 returns-then-first c =
     let p = goal.at.returns-then-first c in
-    simp (first_read p.After-second_at-second, second-read p.After-second_at-second, ne_eqb _ _ c.if-second.false, eq-eqb _ _ c.if-first.true)
+    simp (first_read p.After-second_at-second, second_read p.After-second_at-second, ne_eqb _ _ c.if-second.false, eq-eqb _ _ c.if-first.true)
 
 pub returns : goal.returns
 unfolding wrong_order
 returns c =
     let p = goal.at.returns c in
-    simp (first_read p.After-second_at-second, second-read p.After-second_at-second, ne_eqb _ _ c.if-second.false, ne_eqb _ _ c.if-first.false) refl
+    simp (first_read p.After-second_at-second, second_read p.After-second_at-second, ne_eqb _ _ c.if-second.false, ne_eqb _ _ c.if-first.false) refl

@@ -7,19 +7,19 @@ use Rattle.listing.proofs.rules.wrong_successor.Goals as goal
 use Rattle.listing.proofs.rules.wrong_successor.Goals.{After-strays}
 
 -- what was asked of node i's first successor
-first-asked : (c : After-strays)
+first_asked : (c : After-strays)
     → let a = c.args in
     astray a.bytes.now a.i (node_at a.bytes.now a.i).first ≡ c.strays.result
-first-asked c =
+first_asked c =
     let known = nodes_at_lem c.args.bytes.now c.args.i c.requires.1 in
     sym (rw (rw known at c.first_at.ensures) at c.strays.ensures)
 
 pub returns-then-strays : goal.returns-then-strays
 unfolding wrong_successor
-returns-then-strays c = simp (first-asked (goal.at.returns-then-strays c).After-strays, c.if-strays.true)
+returns-then-strays c = simp (first_asked (goal.at.returns-then-strays c).After-strays, c.if-strays.true)
 
 pub returns : goal.returns
 unfolding wrong_successor
 returns c =
     let known = nodes_at_lem c.args.bytes.now c.args.i c.requires.1 in
-    simp (first-asked (goal.at.returns c).After-strays, c.if-strays.false, sym (rw known at c.second_at.ensures), sym c.strays-2.ensures)
+    simp (first_asked (goal.at.returns c).After-strays, c.if-strays.false, sym (rw known at c.second_at.ensures), sym c.strays-2.ensures)
