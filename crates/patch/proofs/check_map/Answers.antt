@@ -7,14 +7,6 @@ use Rattle.fencing.specs.Marks.{marks_of}
 use Rattle.patch.specs.Patching.{map_rules, fit_rules}
 use Rattle.patch.proofs.MapRules.{length_wrong, bytes_wrong, map_right, fit_stops, fit_passes}
 use Rattle.patch.proofs.check_map.Goals as goal
-use Rattle.patch.proofs.check_map.Goals.{Else-wrong-map}
-
-past_bytes : (c : Else-wrong-map)
-    → let a = c.args in
-    let fit = fit_rules a.bytes.now (marks_of a.map.now) in
-    first_of (map_rules a.bytes.now a.map.now ++ fit) ≡ first_of fit
-past_bytes c =
-    map_right _ _ _ _ (c.if-map-nodes.false ∙ c.node_count-nodes.ensures.0) c.first_wrong-wrong.ensures c.if-wrong-map.false
 
 pub returns-then-map-nodes : goal.returns-then-map-nodes
 returns-then-map-nodes c = sym (length_wrong _ _ _ (λ e. c.if-map-nodes.true (e ∙ sym c.node_count-nodes.ensures.0)))
@@ -26,9 +18,11 @@ returns-then-wrong-map c =
 pub returns-then-nodes-places-gt-NODES : goal.returns-then-nodes-places-gt-NODES
 returns-then-nodes-places-gt-NODES c =
     let a = c.args in
-    sym (past_bytes (goal.at.returns-then-nodes-places-gt-NODES c).Else-wrong-map ∙ fit_stops a.bytes.now (marks_of a.map.now) (omega arith))
+    let read = map_right _ _ _ _ (c.if-map-nodes.false ∙ c.node_count-nodes.ensures.0) c.first_wrong-wrong.ensures c.if-wrong-map.false in
+    sym (read ∙ fit_stops a.bytes.now (marks_of a.map.now) (omega arith))
 
 pub returns : goal.returns
 returns c =
     let a = c.args in
-    sym (past_bytes (goal.at.returns c).Else-wrong-map ∙ fit_passes a.bytes.now (marks_of a.map.now) (omega arith))
+    let right = map_right _ _ _ _ (c.if-map-nodes.false ∙ c.node_count-nodes.ensures.0) c.first_wrong-wrong.ensures c.if-wrong-map.false in
+    sym (right ∙ fit_passes a.bytes.now (marks_of a.map.now) (omega arith))

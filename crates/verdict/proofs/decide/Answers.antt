@@ -1,13 +1,7 @@
 -- `verdict::decide` meets its contract.
-use mathlib.Core.Path.{◌≡◌, sym, ◌∙◌}
-use Rattle.listing.specs.Bytes.{count_n}
+use mathlib.Core.Path.{sym, ◌∙◌}
 use Rattle.verdict.proofs.Deciding.{told_robust, told_open}
 use Rattle.verdict.proofs.decide.Goals as goal
-use Rattle.verdict.proofs.decide.Goals.{Else-first-node_count}
-
--- a failing pair was found
-other : (c : Else-first-node_count) → c.next_failing-found.result.first ≡ count_n c.args.bytes.now → ⊥
-other c e = c.if-first-node_count.false (e ∙ sym c.node_count.ensures.0)
 
 pub returns-then-first-node_count : goal.returns-then-first-node_count
 returns-then-first-node_count c =
@@ -15,4 +9,4 @@ returns-then-first-node_count c =
 
 pub returns : goal.returns
 returns c =
-    told_open _ _ _ _ c.next_failing-found.ensures (other (goal.at.returns c).Else-first-node_count) _ _ _ c.show_chain-count.ensures
+    told_open _ _ _ _ c.next_failing-found.ensures (λ e. c.if-first-node_count.false (e ∙ sym c.node_count.ensures.0)) _ _ _ c.show_chain-count.ensures
