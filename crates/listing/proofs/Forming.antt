@@ -7,11 +7,10 @@ use native.Mathlib.Omega.{arith}
 use native.Mathlib.Numerals.{add-one}
 use Rattle.listing.specs.Bytes.{count_n, count_f}
 use Rattle.listing.specs.Inner.Whole.{Whole}
-use Rattle.listing.specs.Rules.{Refusal, passed, first_of}
-use Rattle.listing.specs.Inner.Numbered.{numbered}
+use Rattle.listing.specs.Rules.{Refusal, passed, refused, first_of}
 use Rattle.listing.specs.Answer.{done, refusal}
 use Rattle.listing.specs.Form.{heading_rules, node_rules, nodes_rules, form_rules, Formed, read_by, form_of}
-use Rattle.listing.proofs.Table.{pass, stop, numbered_some, numbered_none, none_applies}
+use Rattle.listing.proofs.Table.{pass, stop, none_applies}
 use Rattle.listing.proofs.Headed.{clear_headed, headed_whole, formed_headed}
 
 -- a heading that passes
@@ -23,9 +22,9 @@ by_table : {x y : Refusal} (n f : ℕ) → x ≡ y → read_by x n f ≡ read_by
 by_table n f e = ap (λ (y : Refusal). read_by y n f) e
 
 -- the answer where the heading refuses
-pub by_heading : (s : List ℕ) (k : ℕ) → first_of (heading_rules s) ≡ numbered k 0 → (k ≡ 0 → ⊥) → refusal k 0 ≡ form_of s
+pub by_heading : (s : List ℕ) (k p : ℕ) → first_of (heading_rules s) ≡ refused k p → refusal k p ≡ form_of s
 unfolding form_of form_rules
-by_heading s k e h = by_table (count_n s) (count_f s) (sym (stop (heading_rules s) (nodes_rules s 0 (count_n s)) k 0 (e ∙ numbered_some k 0 h)))
+by_heading s k p e = by_table (count_n s) (count_f s) (sym (stop (heading_rules s) (nodes_rules s 0 (count_n s)) k p e))
 
 -- at node i of n the answer is what the rows of the nodes from i on say
 pub record From (s : List ℕ) (n i : ℕ) : Type 0 where
@@ -46,26 +45,27 @@ next_node s n i h =
     let e : n - i ≡ suc (n - (i + 1)) = omega arith in
     rw (e, add-one i)
 
-pub node_refuses : (s : List ℕ) (n i k : ℕ) → From s n i → i < n → first_of (node_rules s i) ≡ numbered k i → (k ≡ 0 → ⊥) → refusal k i ≡ form_of s
-node_refuses s n i k from h e some =
+pub node_refuses : (s : List ℕ) (n i k p : ℕ) → From s n i → i < n → first_of (node_rules s i) ≡ refused k p → refusal k p ≡ form_of s
+node_refuses s n i k p from h e =
     let later = nodes_rules s (i + 1) (n - (i + 1)) in
-    sym (from.rest ∙ by_table n (count_f s) (ap first_of (next_node s n i h) ∙ stop (node_rules s i) later k i (e ∙ numbered_some k i some)))
+    sym (from.rest ∙ by_table n (count_f s) (ap first_of (next_node s n i h) ∙ stop (node_rules s i) later k p e))
 
-pub node_passes : (s : List ℕ) (n i k : ℕ) → From s n i → i < n → first_of (node_rules s i) ≡ numbered k i → k ≡ 0 → From s n (i + 1)
-node_passes s n i k from h e none =
+pub node_passes : (s : List ℕ) (n i : ℕ) → From s n i → i < n → first_of (node_rules s i) ≡ passed → From s n (i + 1)
+node_passes s n i from h e =
     let later = nodes_rules s (i + 1) (n - (i + 1)) in
     record {
       whole = from.whole;
       count = from.count;
       most = omega arith;
-      rest = from.rest ∙ by_table n (count_f s) (ap first_of (next_node s n i h) ∙ pass (node_rules s i) later (e ∙ numbered_none k i none));
+      rest = from.rest ∙ by_table n (count_f s) (ap first_of (next_node s n i h) ∙ pass (node_rules s i) later e);
     }
 
-pub all_read : (s : List ℕ) (n i f : ℕ) → From s n i → n ≤ i → f ≡ count_f s → done n f 0 ≡ form_of s
-all_read s n i f from h e =
+pub all_read : (s : List ℕ) (n i : ℕ) → From s n i → n ≤ i → done (count_n s) (count_f s) 0 ≡ form_of s
+all_read s n i from e =
     let none : n - i ≡ 0 = omega arith in
     let rest = from.rest in
-    rw (e, rest, none)
+    let count = from.count in
+    rw (rest, none, count)
 
 -- A LISTING OF RIGHT FORM HAS ALL ITS RECORDS
 pub formed_whole : (s : List ℕ) → Formed s → Whole s

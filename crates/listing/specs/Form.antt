@@ -1,13 +1,13 @@
 -- The refusals of a listing's form, 2 to 12, in the table's order, and a reader's answer.
-use Rattle.std.specs.Prelude.{◌≡◌, Bool, not, ◌&&◌, ◌||◌, List, [], ◌∷◌, ◌++◌, ℕ, zero, suc, length, eqb, ltb, leb}
+use Rattle.std.specs.Prelude.{◌≡◌, Bool, not, ◌&&◌, ◌||◌, List, [], ◌∷◌, ◌++◌, ℕ, zero, suc, length, eqb, ltb, leb, Result, Ok, Err}
 use Rattle.listing.specs.Limits.{ROUTINES, NODES, HEADING}
 use Rattle.listing.specs.Kinds.{is_version, kinds_of, has_no_location}
 use Rattle.listing.specs.Node.{none}
 use Rattle.listing.specs.Bytes.{byte, version_of, count_f, count_n, record_at, node_at}
 use Rattle.listing.specs.Rules.{Rule, rule, Refusal, passed, refused, first_of}
 use Rattle.listing.specs.Answer.{Answer, done, refusal}
-use Rattle.listing.specs.declared.ReadAnswer.{ReadAnswer}
-use Rattle.listing.specs.declared.ReadAnswer.TheVariants.{Good, Refused}
+use Rattle.listing.specs.Reason.{refused_for}
+use Rattle.listing.specs.declared.reason.Reason.{Reason}
 
 -- 3: "mark wrong"
 unfoldable pub wrong_mark : List ℕ → Bool
@@ -73,9 +73,9 @@ abbrev pub Formed : List ℕ → Type 0
 Formed s = first_of (form_rules s) ≡ passed
 
 -- the rules' number and values for each case of the reader's answer
-abbrev pub read_says : ReadAnswer → Answer
-read_says (Good l) = done l.nodes l.routines 0
-read_says (Refused k p) = refusal k p
+abbrev pub read_says : Result (List ℕ) Reason → Answer
+read_says (Ok s) = done (count_n s) (count_f s) 0
+read_says (Err r) = refused_for r
 
 -- what reading answers: "N and F", or the refusal
 abbrev pub read_by : Refusal → ℕ → ℕ → Answer

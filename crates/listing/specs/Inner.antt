@@ -1,2 +1,4 @@
 pub mod Whole
 pub mod Numbered
+pub mod Coded
+pub mod Found

@@ -5,6 +5,7 @@ pub mod Ascii
 pub mod Bytes
 pub mod Rules
 pub mod Answer
+pub mod Reason
 pub mod Form
 pub mod Valid
 pub mod Inner

@@ -1,10 +1,9 @@
 // The refusals 2 to 12: a function for each condition, and the first that applies.
-ghost use Rattle.std.specs.Prelude.{◌≡◌, ◌<◌, ◌≤◌, length};
+ghost use Rattle.std.specs.Prelude.{◌≡◌, ◌<◌, ◌≤◌, length, IfOk};
 ghost use Rattle.listing.specs.Limits.{HEADING};
 ghost use Rattle.listing.specs.Bytes.{count_n};
-ghost use Rattle.listing.specs.Inner.Whole.{Whole};
 ghost use Rattle.listing.specs.Rules.{first_of};
-ghost use Rattle.listing.specs.Inner.Numbered.{numbered};
+ghost use Rattle.listing.specs.Inner.Found.{found};
 ghost use Rattle.listing.specs.Form.{
   wrong_mark,
   heading_rules,
@@ -15,145 +14,142 @@ ghost use Rattle.listing.specs.Form.{
   wrong_successor,
   wrong_order,
   node_rules,
+  read_says,
+  form_of,
 };
 
-use crate::{
-    Listing, NONE, first_at, has_no_location, is_version, kind_at, kinds_of, location_at,
-    node_count, routine_at, routine_count, second_at, version, wide,
-};
+use crate::{Listing, NONE, Reason, is_version, kinds_of, version};
 
 // Rule 3.
+#[tactic(auto, unfolding(crate::specs::Form::wrong_mark))]
 fn wrong_mark(bytes: &[u8]) -> bool
     requires { HEADING ≤ length bytes.now }
     ensures { result ≡ wrong_mark bytes.now }
 {
-    if bytes[0] != b'O' {
-        return true;
-    }
-    if bytes[1] != b'R' {
-        return true;
-    }
-    bytes[2] != b'D'
+    bytes[0] != b'O' || bytes[1] != b'R' || bytes[2] != b'D'
 }
 
-// The number of the first rule of the heading that refuses, 0 where none does.
-pub fn heading(bytes: &[u8]) -> u8
-    ensures { first_of (heading_rules bytes.now) ≡ numbered result 0 }
+// The first rule of the heading that refuses.
+#[tactic(auto, unfolding(crate::specs::Form::heading_rules, crate::specs::Form::wrong_f))]
+fn heading(bytes: &[u8]) -> Result<(), Reason>
+    ensures { first_of (heading_rules bytes.now) ≡ found result }
 {
     if bytes.len() < Listing::HEADING {
-        return 2;
+        return Err(Reason::Short);
     }
     if wrong_mark(bytes) {
-        return 3;
+        return Err(Reason::Mark);
     }
     if !is_version(version(bytes)) {
-        return 4;
+        return Err(Reason::Version);
     }
-    let f = wide(bytes[5]);
-    if f == 0 {
-        return 5;
+    let f = usize::from(bytes[5]);
+    if f == 0 || Listing::ROUTINES < f {
+        return Err(Reason::Routines);
     }
-    if Listing::ROUTINES < f {
-        return 5;
-    }
-    let n = wide(bytes[6]);
+    let n = usize::from(bytes[6]);
     if Listing::NODES < n {
-        return 6;
+        return Err(Reason::Nodes);
     }
     if bytes.len() != Listing::HEADING + Listing::RECORD * n {
-        return 7;
+        return Err(Reason::Length);
     }
-    0
+    Ok(())
 }
 
 // Rule 8.
-fn wrong_routine(bytes: &[u8], i: usize) -> bool
-    requires { Whole bytes.now × (i < count_n bytes.now) }
-    ensures { result ≡ wrong_routine bytes.now i }
+#[tactic(auto, using(crate::proofs::Nodes::nodes_at_lem), unfolding(crate::specs::Form::wrong_routine))]
+fn wrong_routine(listing: &Listing, i: usize) -> bool
+    requires { i < count_n listing.now }
+    ensures { result ≡ wrong_routine listing.now i }
 {
-    !(routine_at(bytes, i) < routine_count(bytes))
+    listing.routine(i) >= listing.routines()
 }
 
 // Rule 9.
-fn wrong_kind(bytes: &[u8], i: usize) -> bool
-    requires { Whole bytes.now × (i < count_n bytes.now) }
-    ensures { result ≡ wrong_kind bytes.now i }
+#[tactic(auto, using(crate::proofs::Nodes::nodes_at_lem), unfolding(crate::specs::Form::wrong_kind))]
+fn wrong_kind(listing: &Listing, i: usize) -> bool
+    requires { i < count_n listing.now }
+    ensures { result ≡ wrong_kind listing.now i }
 {
-    kinds_of(version(bytes)) <= wide(kind_at(bytes, i))
+    kinds_of(listing.version()) <= usize::from(listing.kind(i).number())
 }
 
 // Rule 10.
-fn wrong_location(bytes: &[u8], i: usize) -> bool
-    requires { Whole bytes.now × (i < count_n bytes.now) }
-    ensures { result ≡ wrong_location bytes.now i }
+#[tactic(auto, using(crate::proofs::Nodes::nodes_at_lem), unfolding(crate::specs::Form::wrong_location))]
+fn wrong_location(listing: &Listing, i: usize) -> bool
+    requires { i < count_n listing.now }
+    ensures { result ≡ wrong_location listing.now i }
 {
-    if has_no_location(kind_at(bytes, i)) {
-        return location_at(bytes, i) != 0;
-    }
-    false
+    listing.kind(i).has_no_location() && listing.location(i) != 0
 }
 
 // Rule 11 of node i's successor x.
-fn strays(bytes: &[u8], i: usize, x: u8) -> bool
-    requires { Whole bytes.now × (i < count_n bytes.now) }
-    ensures { result ≡ astray bytes.now i x }
+#[tactic(auto, using(crate::proofs::Nodes::nodes_at_lem), unfolding(crate::specs::Form::astray))]
+fn strays(listing: &Listing, i: usize, x: u8) -> bool
+    requires { i < count_n listing.now }
+    ensures { result ≡ astray listing.now i x }
 {
     if x == NONE {
         return false;
     }
-    let to = wide(x);
-    if node_count(bytes) <= to {
-        return true;
-    }
-    routine_at(bytes, to) != routine_at(bytes, i)
+    let to = usize::from(x);
+    to >= listing.nodes() || listing.routine(to) != listing.routine(i)
 }
 
 // Rule 11.
-fn wrong_successor(bytes: &[u8], i: usize) -> bool
-    requires { Whole bytes.now × (i < count_n bytes.now) }
-    ensures { result ≡ wrong_successor bytes.now i }
+#[tactic(auto, using(crate::proofs::Nodes::nodes_at_lem), unfolding(crate::specs::Form::wrong_successor))]
+fn wrong_successor(listing: &Listing, i: usize) -> bool
+    requires { i < count_n listing.now }
+    ensures { result ≡ wrong_successor listing.now i }
 {
-    if strays(bytes, i, first_at(bytes, i)) {
-        return true;
-    }
-    strays(bytes, i, second_at(bytes, i))
+    strays(listing, i, listing.first(i)) || strays(listing, i, listing.second(i))
 }
 
 // Rule 12.
-fn wrong_order(bytes: &[u8], i: usize) -> bool
-    requires { Whole bytes.now × (i < count_n bytes.now) }
-    ensures { result ≡ wrong_order bytes.now i }
+#[tactic(auto, using(crate::proofs::Nodes::nodes_at_lem), unfolding(crate::specs::Form::wrong_order))]
+fn wrong_order(listing: &Listing, i: usize) -> bool
+    requires { i < count_n listing.now }
+    ensures { result ≡ wrong_order listing.now i }
 {
-    let first = first_at(bytes, i);
-    let second = second_at(bytes, i);
-    if second == NONE {
-        return false;
-    }
-    if first == NONE {
-        return true;
-    }
-    second <= first
+    let first = listing.first(i);
+    let second = listing.second(i);
+    second != NONE && (first == NONE || second <= first)
 }
 
-// The number of the first rule of node i that refuses, 0 where none does.
-pub fn fault(bytes: &[u8], i: usize) -> u8
-    requires { Whole bytes.now × (i < count_n bytes.now) }
-    ensures { first_of (node_rules bytes.now i) ≡ numbered result i }
+// The first rule of node i that refuses.
+#[tactic(auto, unfolding(crate::specs::Form::node_rules))]
+fn record(listing: &Listing, i: usize) -> Result<(), Reason>
+    requires { i < count_n listing.now }
+    ensures { first_of (node_rules listing.now i) ≡ found result }
 {
-    if wrong_routine(bytes, i) {
-        return 8;
+    if wrong_routine(listing, i) {
+        return Err(Reason::Routine { node: i });
     }
-    if wrong_kind(bytes, i) {
-        return 9;
+    if wrong_kind(listing, i) {
+        return Err(Reason::Kind { node: i });
     }
-    if wrong_location(bytes, i) {
-        return 10;
+    if wrong_location(listing, i) {
+        return Err(Reason::Location { node: i });
     }
-    if wrong_successor(bytes, i) {
-        return 11;
+    if wrong_successor(listing, i) {
+        return Err(Reason::Successor { node: i });
     }
-    if wrong_order(bytes, i) {
-        return 12;
+    if wrong_order(listing, i) {
+        return Err(Reason::Order { node: i });
     }
-    0
+    Ok(())
+}
+
+// The listing whose form is right, or the first of the refusals 2 to 12 that applies.
+pub fn form(bytes: &[u8]) -> Result<Listing<'_>, Reason>
+    ensures says { read_says result ≡ form_of bytes.now }
+    ensures same { IfOk result (λ l. l ≡ bytes.now) }
+{
+    heading(bytes)?;
+    let listing = Listing::new(bytes);
+    for i in 0..listing.nodes() {
+        record(&listing, i)?;
+    }
+    Ok(listing)
 }

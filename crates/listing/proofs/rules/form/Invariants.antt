@@ -1,10 +1,8 @@
 -- `listing::form` meets its contract. The loop's invariant: the answer is what the rows of the nodes from `i` on say.
-use Prim.Native.Nat.{◌-◌}
+use mathlib.Core.Path.{◌≡◌}
+use Rattle.listing.specs.Bytes.{count_n}
 use Rattle.listing.proofs.Forming.{From}
-use Rattle.listing.proofs.form.Given as goal
+use Rattle.listing.proofs.rules.form.Given as goal
 
 abbrev pub invariant-loop-i : goal.invariant-loop-i
-invariant-loop-i l = From l.bytes l.nodes l.i
-
-abbrev pub decreases-loop-i : goal.decreases-loop-i
-decreases-loop-i l = l.nodes - l.i
+invariant-loop-i l = (l.listing ≡ l.bytes) × From l.bytes (count_n l.bytes) l.i
