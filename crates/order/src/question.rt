@@ -1,0 +1,56 @@
+// The questions: which card's order stands in for which.
+use listing::Reason;
+
+// A stronger model on a weaker one, each by its number in the rules.
+#[derive(Clone, Copy)]
+pub enum Question {
+    ScOnX86,
+    ScOnArmv7,
+    X86OnArmv7,
+    Armv8OnArmv7,
+    ScOnArmv8,
+    X86OnArmv8,
+}
+
+impl Question {
+    ghost use Rattle.std.specs.Prelude.{◌≡◌};
+    ghost use Rattle.order.specs.Inner.Asking.{number_of};
+
+    // How many there are.
+    pub const COUNT: usize = 6;
+
+    // Its number.
+    pub fn number(self) -> u8
+        ensures { result ≡ number_of self }
+    {
+        match self {
+            Question::ScOnX86 => 1,
+            Question::ScOnArmv7 => 2,
+            Question::X86OnArmv7 => 3,
+            Question::Armv8OnArmv7 => 4,
+            Question::ScOnArmv8 => 5,
+            Question::X86OnArmv8 => 6,
+        }
+    }
+}
+
+// What is asked by a number; one that asks nothing is refused.
+impl TryFrom<u64> for Question {
+    type Error = Reason;
+
+    ghost use Rattle.order.specs.Inner.Asking.{AskedBy};
+
+    ghost try_from_gives = { AskedBy };
+
+    fn try_from(number: u64) -> Result<Question, Reason> {
+        match number {
+            1 => Ok(Question::ScOnX86),
+            2 => Ok(Question::ScOnArmv7),
+            3 => Ok(Question::X86OnArmv7),
+            4 => Ok(Question::Armv8OnArmv7),
+            5 => Ok(Question::ScOnArmv8),
+            6 => Ok(Question::X86OnArmv8),
+            _ => Err(Reason::Question),
+        }
+    }
+}
