@@ -8,8 +8,8 @@ ghost use Rattle.std.specs.Prelude.{◌≡◌};
 ghost use Rattle.listing.specs.Inner.Coded.{number_of};
 ghost use Rattle.order.specs.Walks.{counts_read, counts_write, is_writer, is_access};
 ghost use Rattle.order.specs.Chains as chains;
-ghost use Rattle.order.specs.Need.{question};
-ghost use Rattle.order.specs.Inner.Asking as asking;
+ghost use Rattle.order.specs.Need as rules;
+ghost use Rattle.order.specs.Inner.Asking.{asked};
 ghost use Rattle.order.specs.Inner.Ends.{by_ends, looks_first, looks_second, bars_with};
 
 use listing::Kind;
@@ -59,10 +59,10 @@ pub fn surely(x: usize, y: usize) -> bool
 }
 
 // Whether barriers look at the ends of a pair under this question: on ARMv8 they do.
-pub fn by_ends(asked: Question) -> bool
-    ensures { result ≡ by_ends (question (asking.number_of asked)) }
+pub fn by_ends(question: Question) -> bool
+    ensures { result ≡ by_ends (rules.question (asked question)) }
 {
-    matches!(asked, Question::ScOnArmv8 | Question::X86OnArmv8)
+    matches!(question, Question::ScOnArmv8 | Question::X86OnArmv8)
 }
 
 // Whether a fence of this kind looks at pairs that start with a node of that kind: a load fence at those that start with a read of
@@ -88,11 +88,11 @@ pub fn looks_second(fence: Kind, kind: Kind) -> bool
 }
 
 // A node of this kind inside is a barrier for the pairs that the fence looks at.
-pub fn bars(asked: Question, fence: Kind, kind: Kind) -> bool
-    ensures { result ≡ bars_with (question (asking.number_of asked)) (number_of fence) (number_of kind) }
+pub fn bars(question: Question, fence: Kind, kind: Kind) -> bool
+    ensures { result ≡ bars_with (rules.question (asked question)) (number_of fence) (number_of kind) }
 {
     matches!(kind, Kind::Fence)
-        || match asked {
+        || match question {
             Question::ScOnX86 => matches!(kind, Kind::Rmw),
             Question::ScOnArmv8 | Question::X86OnArmv8 => kind.number() == fence.number(),
             _ => false,

@@ -14,14 +14,14 @@ pub enum Question {
 
 impl Question {
     ghost use Rattle.std.specs.Prelude.{◌≡◌};
-    ghost use Rattle.order.specs.Inner.Asking.{number_of};
+    ghost use Rattle.order.specs.Inner.Asking.{asked};
 
     // How many there are.
     pub const COUNT: usize = 6;
 
     // Its number.
     pub fn number(self) -> u8
-        ensures { result ≡ number_of self }
+        ensures { result ≡ asked self }
     {
         match self {
             Question::ScOnX86 => 1,

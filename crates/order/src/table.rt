@@ -2,8 +2,8 @@
 ghost use Rattle.std.specs.Prelude.{◌≡◌, ◌<◌};
 ghost use Rattle.listing.specs.Kinds.{KINDS};
 ghost use Rattle.listing.specs.Inner.Coded.{number_of};
-ghost use Rattle.order.specs.Need.{question, entry};
-ghost use Rattle.order.specs.Inner.Asking as asking;
+ghost use Rattle.order.specs.Need as rules;
+ghost use Rattle.order.specs.Inner.Asking.{asked};
 ghost use Rattle.order.specs.Inner.Table.{entry_of};
 
 use crate::Question;
@@ -18,11 +18,11 @@ pub enum Needed {
 }
 
 // The same by question and the kinds of its ends.
-pub fn need(asked: Question, first: Kind, second: Kind) -> Needed
+pub fn need(question: Question, first: Kind, second: Kind) -> Needed
     requires { (number_of first < KINDS) × (number_of second < KINDS) }
-    ensures { entry_of result ≡ entry (question (asking.number_of asked)) (number_of first) (number_of second) }
+    ensures { entry_of result ≡ rules.entry (rules.question (asked question)) (number_of first) (number_of second) }
 {
-    let row = usize::from(asked.number() - 1) * Kind::COUNT + usize::from(first.number());
+    let row = usize::from(question.number() - 1) * Kind::COUNT + usize::from(first.number());
     match NEED[row * Kind::COUNT + usize::from(second.number())] {
         0 => Needed::Never,
         1 => Needed::Always,

@@ -6,15 +6,15 @@ use Rattle.order.specs.Need.{Asked}
 use Rattle.order.specs.declared.question.Question.{Question}
 use Rattle.order.specs.declared.question.Question.TheVariants.{ScOnX86, ScOnArmv7, X86OnArmv7, Armv8OnArmv7, ScOnArmv8, X86OnArmv8}
 
-abbrev pub number_of : Question → ℕ
-number_of ScOnX86 = 1
-number_of ScOnArmv7 = 2
-number_of X86OnArmv7 = 3
-number_of Armv8OnArmv7 = 4
-number_of ScOnArmv8 = 5
-number_of X86OnArmv8 = 6
+abbrev pub asked : Question → ℕ
+asked ScOnX86 = 1
+asked ScOnArmv7 = 2
+asked X86OnArmv7 = 3
+asked Armv8OnArmv7 = 4
+asked ScOnArmv8 = 5
+asked X86OnArmv8 = 6
 
 -- what is asked by the number n
 abbrev pub AskedBy : ℕ → Result Question Reason → Type 0
-AskedBy n (Ok q) = number_of q ≡ n
+AskedBy n (Ok q) = asked q ≡ n
 AskedBy n (Err r) = (r ≡ reasons.Question) × (Asked n → ⊥)
