@@ -1,5 +1,5 @@
 -- One row poured into, sifted, emptied or copied.
-use mathlib.Core.Path.{◌≡◌, ◌∙◌}
+use mathlib.Core.Path.{◌≡◌, ap, ◌∙◌}
 use mathlib.Core.Logic.{◌⊎◌, inl, inr}
 use mathlib.Core.List.{List}
 use Prim.Native.Nat.{ℕ, ◌+◌, ◌-◌, ◌*◌, ◌<◌}
@@ -11,23 +11,23 @@ use Rattle.rows.specs.Inner.Touched.{Mixed, Poured, Sifted, Emptied, Copied}
 use Rattle.rows.proofs.Bit.{bit_zero}
 use Rattle.rows.proofs.Places.{at_le, row_or_rest, at_low, at_high, stored_low, stored_high, stored_rest}
 
--- row a with its words x and p combined with the words y and q of row k of u: words combined by op are bits combined by g
+-- row a with its words combined with those of row k of u: words combined by op are bits combined by g
 pub mixed : (op g : ℕ → ℕ → ℕ) → ((x y i : ℕ) → bit (op x y) i ≡ g (bit x i) (bit y i))
-    → {u w v : List ℕ} {a k x y p q : ℕ} → 2 * a + 1 < length w
-    → x ≡ low_word w a → y ≡ low_word u k → p ≡ high_word w a → q ≡ high_word u k
-    → v ≡ with_words w a (op x y) (op p q) → Mixed g u w v a k
-mixed op g law {u} {w} {v} {a} {k} {x} {y} {p} {q} long ex ey ep eq e =
-    rw e (record { row = λ z hz. row z hz (dec_lt z 64); rest = stored_rest w a (op x y) (op p q) long })
+    → {u w v : List ℕ} {a k lo hi : ℕ} → 2 * a + 1 < length w
+    → lo ≡ op (low_word w a) (low_word u k) → hi ≡ op (high_word w a) (high_word u k)
+    → v ≡ with_words w a lo hi → Mixed g u w v a k
+mixed op g law {u} {w} {v} {a} {k} {lo} {hi} long el eh e =
+    rw e (record { row = λ z hz. row z hz (dec_lt z 64); rest = stored_rest w a lo hi long })
   where
-    row : (z : ℕ) → z < 128 → Dec (z < 64) → at (with_words w a (op x y) (op p q)) a z ≡ g (at w a z) (at u k z)
+    row : (z : ℕ) → z < 128 → Dec (z < 64) → at (with_words w a lo hi) a z ≡ g (at w a z) (at u k z)
     row z hz (yes h) =
         let ew = at_low w a z h in
         let eu = at_low u k z h in
-        stored_low w a (op x y) (op p q) long z h ∙ law x y z ∙ cc
+        stored_low w a lo hi long z h ∙ cc (ap (λ (x : ℕ). bit x z) el, law (low_word w a) (low_word u k) z)
     row z hz (no h) =
         let ew = at_high w a z (omega arith) hz in
         let eu = at_high u k z (omega arith) hz in
-        stored_high w a (op x y) (op p q) long z (omega arith) hz ∙ law p q (z - 64) ∙ cc
+        stored_high w a lo hi long z (omega arith) hz ∙ cc (ap (λ (x : ℕ). bit x (z - 64)) eh, law (high_word w a) (high_word u k) (z - 64))
 
 -- a row after 0 is stored in both its words
 pub emptied : {w v : List ℕ} {a : ℕ} → 2 * a + 1 < length w → v ≡ with_words w a 0 0 → Emptied w v a

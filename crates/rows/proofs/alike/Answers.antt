@@ -5,5 +5,5 @@ use Rattle.rows.proofs.alike.Goals as goal
 
 pub returns : goal.returns
 returns c =
-    two.alike _ _ _ (sym c.low_word.ensures ∙ c.if-low_word.false ∙ c.low_word-2.ensures)
-    (sym c.high_word.ensures ∙ c.if-high_word.false ∙ c.high_word-2.ensures)
+    two.both_same _ _ _ _ _ c.eq.ensures
+    (λ l h. two.alike _ _ _ (sym c.of.ensures.low ∙ l ∙ c.of-2.ensures.low) (sym c.of.ensures.high ∙ h ∙ c.of-2.ensures.high))
