@@ -224,12 +224,9 @@ pub fn earlier(r: &[u64], x: usize) -> usize
     requires { 2 * x + 1 < length r.now }
     ensures { Earlier r.now x result }
 {
-    for y in x.saturating_sub(NEAR)..x {
-        if alike(r, x, y) {
-            return y;
-        }
-    }
-    x
+    (x.saturating_sub(NEAR)..x)
+        .find(|y| alike(r, x, *y))
+        .unwrap_or(x)
 }
 
 // Row a of m, into the one row of s.
