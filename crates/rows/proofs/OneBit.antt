@@ -13,7 +13,7 @@ use native.Mathlib.Nat.{zero-mul}
 use lib.Bits.{bit_and}
 use lib.ListN.{length, get_or, set}
 use lib.Seq.{get_or-set_same, get_or-set_other}
-use Rattle.rows.specs.Inner.Rows.{Tells, bit, IsSet, at, Has}
+use Rattle.rows.specs.Inner.Rows.{Tells, bit, at, Has}
 use Rattle.rows.specs.Inner.Touched.{Added, Removed}
 use Rattle.rows.proofs.Bit.{hot, put_bit, drop_bit, put_same, put_other, drop_same, drop_other, bit_le, masked_bit}
 

@@ -8,8 +8,10 @@ use native.Mathlib.Decide.{dec_lt}
 use borrow.Author.Tests.{eqb-true, eqb-false}
 use lib.Dec.{eqb}
 use lib.Bits.{bit_and}
+use Rattle.std.specs.Prelude.{Option, None, Some}
+use Rattle.std.specs.Option.{MatchOption, unwrap_or}
 use Rattle.rows.specs.Inner.Rows.{Tells, Vouches, bit, low_word, high_word, at, Has, Meet}
-use Rattle.rows.specs.Inner.Touched.{Covers, Alike}
+use Rattle.rows.specs.Inner.Touched.{Covers, Alike, Earlier}
 use Rattle.rows.proofs.Bit.{bit_and_lem, bit_le, common_bit, no_common}
 use Rattle.rows.proofs.Places.{at_low, at_high}
 
@@ -79,9 +81,19 @@ covers w k a lo hi y hy h = by (dec_lt y 64)
 
 -- ---- the same words
 
-pub alike : (w : List ℕ) (x y : ℕ) → low_word w x ≡ low_word w y → high_word w x ≡ high_word w y → Alike w x y
-alike w x y lo hi z hz = by (dec_lt z 64)
+-- the rows x and y have the same words
+abbrev pub SameWords : List ℕ → ℕ → ℕ → Type 0
+SameWords w x y = (low_word w x ≡ low_word w y) × (high_word w x ≡ high_word w y)
+
+alike : (w : List ℕ) (x y : ℕ) → SameWords w x y → Alike w x y
+alike w x y e z hz = by (dec_lt z 64)
   where
     by : Dec (z < 64) → at w x z ≡ at w y z
-    by (yes l) = at_low w x z l ∙ ap (λ (u : ℕ). bit u z) lo ∙ sym (at_low w y z l)
-    by (no l) = let i : 64 ≤ z = omega arith in at_high w x z i hz ∙ ap (λ (u : ℕ). bit u (z - 64)) hi ∙ sym (at_high w y z i hz)
+    by (yes l) = at_low w x z l ∙ ap (λ (u : ℕ). bit u z) e.0 ∙ sym (at_low w y z l)
+    by (no l) = let i : 64 ≤ z = omega arith in at_high w x z i hz ∙ ap (λ (u : ℕ). bit u (z - 64)) e.1 ∙ sym (at_high w y z i hz)
+
+-- what is found among the rows before row x, or x
+pub earlier : (w : List ℕ) (x s : ℕ) (A : Type 0) (B : ℕ → Type 0) (o : Option ℕ)
+    → MatchOption o A (λ i. (s ≤ i) × (i < x) × SameWords w x i × B i) → Earlier w x (unwrap_or o x)
+earlier w x s A B None h = record { low = omega arith; same = λ l. absurd (omega arith) }
+earlier w x s A B (Some i) h = record { low = omega (arith, h.1); same = λ l. alike w x i h.2 }

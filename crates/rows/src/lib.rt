@@ -20,6 +20,8 @@ ghost use Rattle.rows.specs.Inner.Touched.{
 use listing::Listing;
 use std::ops::{BitAnd, BitOr};
 
+// Rows stay words in slices in every signature: the crates above lend one row and a whole relation alike, and cite these contracts.
+
 // The words of a relation: two a node, of as many nodes as a listing has at the most.
 pub const WORDS: usize = 2 * Listing::NODES;
 
@@ -117,7 +119,7 @@ pub fn or_row(w: &mut [u64], a: usize, k: usize)
     (Row::of(w, a) | Row::of(w, k)).store(w, a);
 }
 
-// Puts row k of u into row a of w.
+// Puts row k of u into row a of w. This isn't `or_row` too: rows that are lent for writing can't be lent as u beside.
 pub fn pour(u: &[u64], k: usize, w: &mut [u64], a: usize)
     requires { (2 * a + 1 < length w.old) × (2 * k + 1 < length u.now) }
     ensures { Poured u.now w.old w.new a k }
@@ -156,7 +158,7 @@ pub fn meet(w: &[u64], a: usize, s: &[u64], z: usize) -> bool
     Row::of(w, a) & Row::of(s, z) != Row::EMPTY
 }
 
-// The least bit of x from b on, or 64 where there is none.
+// The least bit of x from b on, or 64 where there is none: that answer, and `next`'s n, is what `Least` says of every search.
 fn lowest(x: u64, b: usize) -> usize
     requires { b < 64 }
     ensures { Least (IsSet x) b 64 result }
@@ -179,18 +181,17 @@ pub fn next(w: &[u64], a: usize, b: usize, n: usize) -> usize
     if has(w, a, b) {
         return b;
     }
-    let row = Row::of(w, a);
     if 64 <= b {
-        return (lowest(row.high, b - 64) + 64).min(n);
+        return (lowest(w[2 * a + 1], b - 64) + 64).min(n);
     }
-    let r = lowest(row.low, b);
+    let r = lowest(w[2 * a], b);
     if r < 64 {
         return r.min(n);
     }
-    (lowest(row.high, 0) + 64).min(n)
+    (lowest(w[2 * a + 1], 0) + 64).min(n)
 }
 
-// Keeps of the rows c what f has too.
+// Keeps of the rows c what f has too. No `zip` with f: of what is written through one a proof knows the length alone.
 pub fn narrow(f: &[u64; WORDS], c: &mut [u64; WORDS])
     ensures { Common f.now c.old c.new }
 {
@@ -208,14 +209,6 @@ pub fn within(w: &[u64], k: usize, a: usize) -> bool
     whole & Row::of(w, a) == whole
 }
 
-// Whether the rows x and y are the same.
-fn alike(r: &[u64], x: usize, y: usize) -> bool
-    requires { (2 * x + 1 < length r.now) × (2 * y + 1 < length r.now) }
-    ensures { Vouches result (Alike r.now x y) }
-{
-    Row::of(r, x) == Row::of(r, y)
-}
-
 // How far back a row that is the same is looked for.
 const NEAR: usize = 12;
 
@@ -224,8 +217,9 @@ pub fn earlier(r: &[u64], x: usize) -> usize
     requires { 2 * x + 1 < length r.now }
     ensures { Earlier r.now x result }
 {
+    let row = Row::of(r, x);
     (x.saturating_sub(NEAR)..x)
-        .find(|y| alike(r, x, *y))
+        .find(|y| Row::of(r, *y) == row)
         .unwrap_or(x)
 }
 
@@ -234,6 +228,5 @@ pub fn copy_row(m: &[u64; WORDS], a: usize, s: &mut [u64; 2])
     requires { a < 128 }
     ensures { Copied m.now a s.new }
 {
-    clear(s);
-    pour(m, a, s, 0);
+    Row::of(m, a).store(s, 0);
 }

@@ -7,19 +7,19 @@ returns-then-b-ge64 c =
     let a = c.args in
     rw c.min.ensures
     (next_above a.w.now a.a a.b a.n c.if-n-b.false c.requires.2 _
-    c.if-b-ge64.true (rw c.of-row.ensures.high at c.lowest.ensures))
+    c.if-b-ge64.true c.lowest.ensures)
 
 pub returns-then-r-lt64 : goal.returns-then-r-lt64
 returns-then-r-lt64 c =
     let a = c.args in
     rw c.min-then-r-lt64.ensures
     (next_low a.w.now a.a a.b a.n c.if-n-b.false c.requires.2 _
-    (rw c.of-row.ensures.low at c.lowest-r.ensures) c.if-r-lt64.true)
+    c.lowest-r.ensures c.if-r-lt64.true)
 
 pub returns : goal.returns
 returns c =
     let a = c.args in
     rw c.min-2.ensures
     (next_over a.w.now a.a a.b a.n c.if-n-b.false c.requires.2 _ _
-    (rw c.of-row.ensures.low at c.lowest-r.ensures) c.if-r-lt64.false c.if-b-ge64.false
-    (rw c.of-row.ensures.high at c.lowest-2.ensures))
+    c.lowest-r.ensures c.if-r-lt64.false c.if-b-ge64.false
+    c.lowest-2.ensures)
