@@ -84,7 +84,7 @@ impl BitAnd for Row {
     }
 }
 
-// The least bit of x from b on, or 64 where there is none. No `Option` here and in `search`: what is added to it and `min` take a number.
+// The least bit of x from b on, or 64 where there is none. No `Option` here and in `search`: `min` takes a number, and so judging is quicker.
 fn lowest(x: u64, b: usize) -> usize
     requires { b < 64 }
     ensures { Least (IsSet x) b 64 result }
@@ -96,7 +96,7 @@ fn lowest(x: u64, b: usize) -> usize
     b + y.trailing_zeros() as usize
 }
 
-// Whether b stands in row a of the words w. This and the next two take words that are lent, so that `Nodes` needs no N.
+// Whether b stands in row a of the words w. This and `search` take words that are lent, so that `Nodes` needs no N.
 fn stands(w: &[u64], a: usize, b: usize) -> bool
     requires { (2 * a + 1 < length w.now) × (b < 128) }
     ensures { Tells result (Has w.now a b) }
@@ -124,15 +124,6 @@ fn search(w: &[u64], a: usize, b: usize, n: usize) -> usize
         return r.min(n);
     }
     (lowest(w[2 * a + 1], 0) + 64).min(n)
-}
-
-// The same, if there is one.
-fn least(w: &[u64], a: usize, b: usize, n: usize) -> Option<usize>
-    requires { (2 * a + 1 < length w.now) × (b ≤ n) × (n ≤ 128) }
-    ensures { LeastIfAny (Has w.now a) b n result }
-{
-    let r = search(w, a, b, n);
-    if r < n { Some(r) } else { None }
 }
 
 // How far back a row that is the same is looked for.
@@ -250,7 +241,7 @@ impl<const N: usize> Rows<N> {
         requires { (2 * a + 1 < N) × (b ≤ n) × (n ≤ 128) }
         ensures { LeastIfAny (Has self.now a) b n result }
     {
-        least(&self.words, a, b, n)
+        self.members(a, b, n).next()
     }
 
     // The nodes of row a from b on and below n, in order.
@@ -337,11 +328,12 @@ impl<'a> Iterator for Nodes<'a> {
     ghost remaining = { λ s. at_most (s.n - s.place) };
 
     fn next(&mut self) -> Option<usize> {
-        let node = least(self.words, self.a, self.place, self.n);
-        self.place = match node {
-            Some(r) => r + 1,
-            None => self.n,
-        };
-        node
+        let r = search(self.words, self.a, self.place, self.n);
+        if r < self.n {
+            self.place = r + 1;
+            return Some(r);
+        }
+        self.place = r;
+        None
     }
 }
