@@ -116,8 +116,10 @@ pub fn put_patched(listing: &Listing, map: &[u8], out: &mut [u8]) -> usize
         (patched (nodes_of listing.now) (marks_of map.now))) out.old) }
 {
     let patch = Patch { listing, map };
+    let version = listing.version();
+    let routines = listing.routines();
     let nodes = listing.nodes() + places(map);
-    listing::put_heading(out, listing.version(), listing.routines(), nodes as u8);
+    listing::put_heading(out, version, routines, nodes as u8);
     patch.put_nodes(out);
     let end = patch.put_fences(out);
     Listing::HEADING + Listing::RECORD * end

@@ -21,6 +21,6 @@ returns c =
     let count : c.nodes.result + c.places.result ≡ length (nodes_of s) + places (marks_of bytes) = omega (arith, c.places.ensures.0, c.nodes.ensures.count) in (
       omega arith,
       all_put (version_of s) (count_f s) (nodes_of s) (marks_of bytes) a.out.now (mapped s bytes c.requires.0) room
-          c.version.ensures.0 c.routines.ensures count (sym many)
+          c.version-version.ensures.0 c.routines-routines.ensures count (sym many)
           c.put_heading.ensures c.put_nodes.ensures c.put_fences-end.ensures.1,
     )
