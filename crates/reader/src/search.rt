@@ -44,6 +44,7 @@ fn entries(listing: &Listing, found: &mut [u64; 2])
 }
 
 // Finds b, if it is a node that was not found, and says so by its number.
+// It takes the count and not the listing, since a caller that puts the node somewhere needs the bound on it too.
 fn step(n: usize, found: &mut [u64; 2], b: u8) -> Option<usize>
     requires { n ≤ 128 }
     ensures { Stepped n found.old found.new b result }
@@ -88,6 +89,7 @@ fn follow(listing: &Listing, found: &mut [u64; 2], waiting: &mut [u64; 2])
     let n = listing.nodes();
     rows::clear(waiting);
     rows::pour(found, 0, waiting, 0);
+    // `next` answers n where nothing waits, as every `Least` does, so that the loop asks for that and not for `None`.
     let mut a = rows::next(waiting, 0, 0, n);
     while a < n {
         rows::take_out(waiting, 0, a);
