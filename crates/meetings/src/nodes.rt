@@ -7,19 +7,21 @@ ghost use Rattle.rows.specs.Inner.Rows.{Members};
 ghost use Rattle.meetings.specs.Inner.Tested.{TestOf};
 
 use listing::{Kind, Listing};
+use rows::Set;
 
-// The nodes of whose kinds the test says that they belong, into the one row of s.
-pub fn gather<F: Fn(Kind) -> bool>(listing: &Listing, belongs: F, s: &mut [u64; 2])
+// The nodes of whose kinds the test says that they belong.
+pub fn gather<F: Fn(Kind) -> bool>(listing: &Listing, belongs: F) -> Set
     requires { F.IsAlwaysCallable belongs }
     ensures members { (P : ℕ → Bool) → TestOf P (F.post belongs)
-        → Members s.new (count_n listing.now) (λ c. T (P (kind_at (nodes_of listing.now) c))) }
+        → Members result (count_n listing.now) (λ c. T (P (kind_at (nodes_of listing.now) c))) }
     ensures whole { Whole listing.now }
 {
-    rows::clear(s);
+    let mut s = Set::empty();
     let n = listing.nodes();
     for i in 0..n {
         if belongs(listing.kind(i)) {
-            rows::put(s, 0, i);
+            s.put(0, i);
         }
     }
+    s
 }

@@ -6,10 +6,10 @@ ghost use Rattle.rows.specs.Inner.Growing.{RowGrown, RowsDone};
 ghost use Rattle.meetings.specs.Inner.Meeting.{Overlapping, TwinIfAny};
 
 use listing::Listing;
-use rows::WORDS;
+use rows::Relation;
 
 // The nodes whose locations overlap a's, into row a of m.
-fn fill_row(listing: &Listing, m: &mut [u64; WORDS], a: usize)
+fn fill_row(listing: &Listing, m: &mut Relation, a: usize)
     requires { a < count_n listing.now }
     ensures { RowGrown (Overlapping (nodes_of listing.now)) m.old m.new a (count_n listing.now) }
 {
@@ -17,7 +17,7 @@ fn fill_row(listing: &Listing, m: &mut [u64; WORDS], a: usize)
     let x = listing.location(a);
     for b in 0..n {
         if order::overlap(x, listing.location(b)) {
-            rows::put(m, a, b);
+            m.put(a, b);
         }
     }
 }
@@ -35,21 +35,21 @@ fn twin(listing: &Listing, a: usize) -> Option<usize>
 }
 
 // The nodes whose locations overlap a's, into row a of m: copied from a node at the same location where one is near.
-fn overlap_row(listing: &Listing, m: &mut [u64; WORDS], a: usize)
+fn overlap_row(listing: &Listing, m: &mut Relation, a: usize)
     requires { (a < count_n listing.now) × (count_n listing.now ≤ 128) × RowsDone (Overlapping (nodes_of listing.now)) m.old a (count_n listing.now) }
     ensures { RowGrown (Overlapping (nodes_of listing.now)) m.old m.new a (count_n listing.now) }
 {
     match twin(listing, a) {
-        Some(b) => rows::or_row(m, a, b),
+        Some(b) => m.or_row(a, b),
         None => fill_row(listing, m, a),
     }
 }
 
 // Whose locations overlap.
-pub fn overlap_rows(listing: &Listing, m: &mut [u64; WORDS])
+pub fn overlap_rows(listing: &Listing, m: &mut Relation)
     ensures { Holds m.new (count_n listing.now) (Overlapping (nodes_of listing.now)) }
 {
-    rows::clear(m);
+    m.clear();
     let n = listing.nodes();
     for a in 0..n {
         overlap_row(listing, m, a);

@@ -10,35 +10,33 @@ ghost use Rattle.suspects.specs.Inner.Suspect.{OnChain};
 
 use listing::Listing;
 use meetings::gather;
-use rows::WORDS;
+use rows::Relation;
 
 // The pairs from a whose end meets a node of row a of h, into row a of w.
 fn back_row(
     n: usize,
-    p: &[u64; WORDS],
-    m: &[u64; WORDS],
-    h: &[u64; WORDS],
-    w: &mut [u64; WORDS],
+    p: &Relation,
+    m: &Relation,
+    h: &Relation,
+    w: &mut Relation,
     a: usize,
 )
     requires { (n ≤ 128) × (a < n) }
     ensures { RowGrown (RowBack p.now m.now h.now) w.old w.new a n }
 {
-    let mut b = rows::next(p, a, 0, n);
-    while b < n {
-        if rows::meet(m, b, h, a) {
-            rows::put(w, a, b);
+    for b in p.members(a, 0, n) {
+        if m.meet(b, h, a) {
+            w.put(a, b);
         }
-        b = rows::next(p, a, b + 1, n);
     }
 }
 
 // The same from every node.
-fn back_rows(n: usize, p: &[u64; WORDS], m: &[u64; WORDS], h: &[u64; WORDS], w: &mut [u64; WORDS])
+fn back_rows(n: usize, p: &Relation, m: &Relation, h: &Relation, w: &mut Relation)
     requires { n ≤ 128 }
     ensures { Holds w.new n (RowBack p.now m.now h.now) }
 {
-    rows::clear(w);
+    w.clear();
     for a in 0..n {
         back_row(n, p, m, h, w, a);
     }
@@ -47,18 +45,17 @@ fn back_rows(n: usize, p: &[u64; WORDS], m: &[u64; WORDS], h: &[u64; WORDS], w: 
 // The pairs on a chain. h is for the work: who leads back to whom. w keeps the pairs turned round before.
 pub fn chain_rows(
     listing: &Listing,
-    p: &[u64; WORDS],
-    m: &[u64; WORDS],
-    h: &mut [u64; WORDS],
-    w: &mut [u64; WORDS],
+    p: &Relation,
+    m: &Relation,
+    h: &mut Relation,
+    w: &mut Relation,
 )
     requires { Holds p.now (count_n listing.now) (Pair (nodes_of listing.now))
         × Holds m.now (count_n listing.now) (Meeting (nodes_of listing.now)) }
     ensures { Holds w.new (count_n listing.now) (OnChain (nodes_of listing.now)) }
 {
     let n = listing.nodes();
-    let mut every = [0u64; 2];
-    gather(listing, |_| true, &mut every);
+    let every = gather(listing, |_| true);
     reach::turn(n, p, w);
     reach::compose(n, m, w, h);
     reach::close(n, &every, h);

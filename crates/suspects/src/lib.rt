@@ -13,24 +13,22 @@ ghost use Rattle.suspects.specs.Inner.Suspect.{Reaches, Exchanged, Ready};
 use listing::{Kind, Listing};
 use meetings::gather;
 use order::Question;
-use rows::WORDS;
+use rows::Relation;
 
 // Who reaches whom.
-fn reach_rows(listing: &Listing, w: &mut [u64; WORDS])
+fn reach_rows(listing: &Listing, w: &mut Relation)
     ensures { Holds w.new (count_n listing.now) (Reaches (nodes_of listing.now)) }
 {
-    let mut every = [0u64; 2];
-    gather(listing, |_| true, &mut every);
+    let every = gather(listing, |_| true);
     reach::walks(listing, &every, w);
 }
 
 // The pairs: who reaches whom, among accesses.
-fn pair_rows(listing: &Listing, p: &mut [u64; WORDS])
+fn pair_rows(listing: &Listing, p: &mut Relation)
     ensures pairs { Holds p.new (count_n listing.now) (Pair (nodes_of listing.now)) }
     ensures whole { Whole listing.now }
 {
-    let mut accesses = [0u64; 2];
-    gather(listing, order::is_access, &mut accesses);
+    let accesses = gather(listing, order::is_access);
     reach_rows(listing, p);
     reach::restrict(listing.nodes(), &accesses, p);
 }
@@ -38,16 +36,15 @@ fn pair_rows(listing: &Listing, p: &mut [u64; WORDS])
 // Between which accesses some walk has an RMW inside. v is for the work: the pairs whose second node is an RMW.
 pub fn exchanged_rows(
     listing: &Listing,
-    p: &[u64; WORDS],
-    v: &mut [u64; WORDS],
-    i: &mut [u64; WORDS],
+    p: &Relation,
+    v: &mut Relation,
+    i: &mut Relation,
 )
     requires { Holds p.now (count_n listing.now) (Pair (nodes_of listing.now)) }
     ensures { Holds i.new (count_n listing.now) (Exchanged (nodes_of listing.now)) }
 {
     let n = listing.nodes();
-    let mut rmws = [0u64; 2];
-    gather(listing, |kind| matches!(kind, Kind::Rmw), &mut rmws);
+    let rmws = gather(listing, |kind| matches!(kind, Kind::Rmw));
     reach::columns(n, &rmws, p, v);
     reach::compose(n, v, p, i);
 }
@@ -57,10 +54,10 @@ pub fn exchanged_rows(
 pub fn suspects(
     question: Question,
     listing: &Listing,
-    p: &mut [u64; WORDS],
-    m: &mut [u64; WORDS],
-    c: &mut [u64; WORDS],
-    i: &mut [u64; WORDS],
+    p: &mut Relation,
+    m: &mut Relation,
+    c: &mut Relation,
+    i: &mut Relation,
 )
     ensures { Ready (asked question) listing.now p.new m.new c.new }
 {

@@ -13,5 +13,5 @@ pub returns-clause-clear : goal.returns-clause-clear
 returns-clause-clear c =
     let q = asked c.args.question in
     let fence = number_of c.args.fence in
-    let free = c.gather.ensures.members (λ k. not (bars_with (question q) fence k)) (λ k r p. search rules) in
-    clear_hold (counted c.gather.ensures.whole) q fence free c.walks.ensures
+    let free = c.gather-free.ensures.members (λ k. not (bars_with (question q) fence k)) (λ k r p. search rules) in
+    clear_hold (counted c.gather-free.ensures.whole) q fence free c.walks.ensures

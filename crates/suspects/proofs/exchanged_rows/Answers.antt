@@ -8,5 +8,5 @@ use Rattle.suspects.proofs.exchanged_rows.Goals as goal
 pub returns : goal.returns
 returns c =
     let n = c.nodes-n.ensures in
-    let rmws = c.gather.ensures.members counts_rmw (λ k r p. search rules) in
+    let rmws = c.gather-rmws.ensures.members counts_rmw (λ k r p. search rules) in
     exchanged_hold (counted n.whole) c.requires rmws (rw n.count.0 at c.columns.ensures) (rw n.count.0 at c.compose.ensures)

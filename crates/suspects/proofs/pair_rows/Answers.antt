@@ -8,5 +8,5 @@ use Rattle.suspects.proofs.pair_rows.Goals as goal
 pub returns-clause-pairs : goal.returns-clause-pairs
 returns-clause-pairs c =
     let n = c.nodes.ensures in
-    let accesses = c.gather.ensures.members is_access (λ k r p. search rules) in
+    let accesses = c.gather-accesses.ensures.members is_access (λ k r p. search rules) in
     pairs_hold (counted n.whole) c.reach_rows.ensures accesses (rw n.count.0 at c.restrict.ensures)

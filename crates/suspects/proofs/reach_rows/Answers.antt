@@ -7,5 +7,5 @@ use Rattle.suspects.proofs.reach_rows.Goals as goal
 
 pub returns : goal.returns
 returns c =
-    let every = c.gather.ensures in
+    let every = c.gather-every.ensures in
     reach_hold (counted every.whole) (every.members (λ k. true) (λ k r p. search rules)) c.walks.ensures

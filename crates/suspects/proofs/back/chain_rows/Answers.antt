@@ -11,7 +11,7 @@ returns c =
     let n = c.nodes-n.ensures in
     let few = counted n.whole in
     let e = n.count.0 in
-    let every = c.gather.ensures.members (λ k. true) (λ k r p. search rules) in
+    let every = c.gather-every.ensures.members (λ k. true) (λ k r p. search rules) in
     chain_hold few pre.0 pre.1
     (led_hold few pre.0 pre.1 every (rw e at c.turn.ensures) (rw e at c.compose.ensures) (rw e at c.close.ensures))
     (rw e at c.stay.ensures) (rw e at c.back_rows.ensures)
