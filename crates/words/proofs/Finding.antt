@@ -125,7 +125,7 @@ none_found s at r u h =
     }
 
 -- a word that says something is no end
-some_word : (w : Said) → (w ≡ End → ⊥) → is_end w ≡ false
+pub some_word : (w : Said) → (w ≡ End → ⊥) → is_end w ≡ false
 some_word w = elim w as (λ k. (k ≡ End → ⊥) → is_end k ≡ false) [
   | End ↦ λ h. absurd (h refl)
   | _ ↦ λ h. refl
