@@ -1,3 +1,4 @@
 pub mod Putting
+pub mod Growing
 pub mod Decimal
 pub mod Examples

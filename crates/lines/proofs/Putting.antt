@@ -5,7 +5,7 @@ use Prim.Native.Nat.{ℕ, ◌+◌, ◌-◌, ◌≤◌}
 use native.Mathlib.Omega.{arith}
 use borrow.Rule.Slice.PartMut.{put_mid, mid_of, post_of}
 use lib.ListN.{length, take, drop, length-drop, length-append, drop_of_length-le}
-use lib.Seq.{sets, sets-eq, length-sets, take_all, drop-drop}
+use lib.Seq.{sets, sets-eq, take_all, drop-drop}
 use Rattle.listing.specs.Answer.{filled}
 use Rattle.listing.proofs.Stores.{sets_append}
 use Rattle.lines.specs.Inner.Put.{Put}

@@ -1,46 +1,65 @@
-// Text put into a lent buffer, piece after piece: each function answers where the next piece goes.
+// Text put into a lent buffer, piece after piece.
 #![tactic(auto)]
 
-ghost use Rattle.std.specs.Prelude.{◌+◌, ◌≤◌, length};
+ghost use Rattle.std.specs.Prelude.{◌≡◌};
 ghost use Rattle.lines.specs.Text.{decimal};
 ghost use Rattle.lines.specs.Text.{next as text_next};
 ghost use Rattle.lines.specs.Text.{pair as text_pair};
-ghost use Rattle.lines.specs.Inner.Put.{Put};
 
-// Words.
-pub fn words(line: &mut [u8], at: usize, text: &[u8]) -> usize
-    requires { at + length text.now ≤ length line.old }
-    ensures { Put line.old at text.now line.new result }
-{
-    listing::copy(text, &mut line[at..]);
-    at + text.len()
+// A lent buffer, and where the next piece goes.
+#[derive(Drop)]
+pub struct Line<'a> {
+    pub buffer: &'a mut [u8],
+    pub end: usize,
 }
 
-// A number.
-pub fn number(line: &mut [u8], at: usize, n: usize) -> usize
-    requires { at + length (decimal n) ≤ length line.old }
-    ensures { Put line.old at (decimal n) line.new result }
-{
-    let mut digits = [0u8; 20];
-    let k = io::decimal(n as u64, &mut digits);
-    words(line, at, &digits[..k])
-}
+impl<'a> Line<'a> {
+    ghost use Rattle.lines.specs.Inner.Growing.{HasRoom, Grows};
 
-// A number after a space.
-pub fn next(line: &mut [u8], at: usize, n: usize) -> usize
-    requires { at + length (text_next n) ≤ length line.old }
-    ensures { Put line.old at (text_next n) line.new result }
-{
-    let after = words(line, at, b" ");
-    number(line, after, n)
-}
+    // Nothing is put yet.
+    pub fn new(buffer: &'a mut [u8]) -> Self
+        ensures same { result.buffer.ghost_name ≡ buffer.entry.ghost_name }
+        ensures bytes { result.buffer.now ≡ buffer.old }
+        ensures start { result.end ≡ 0 }
+    {
+        Line { buffer, end: 0 }
+    }
 
-// A pair after a space.
-pub fn pair(line: &mut [u8], at: usize, a: usize, b: usize) -> usize
-    requires { at + length (text_pair a b) ≤ length line.old }
-    ensures { Put line.old at (text_pair a b) line.new result }
-{
-    let first = next(line, at, a);
-    let middle = words(line, first, b"-");
-    number(line, middle, b)
+    // Words.
+    pub fn words(&mut self, text: &[u8])
+        requires { HasRoom self.old text.now }
+        ensures { Grows self.old text.now self.new }
+    {
+        listing::copy(text, &mut self.buffer[self.end..]);
+        self.end += text.len();
+    }
+
+    // A number.
+    pub fn number(&mut self, n: usize)
+        requires { HasRoom self.old (decimal n) }
+        ensures { Grows self.old (decimal n) self.new }
+    {
+        let mut digits = [0u8; 20];
+        let k = io::decimal(n as u64, &mut digits);
+        self.words(&digits[..k]);
+    }
+
+    // A number after a space.
+    pub fn next(&mut self, n: usize)
+        requires { HasRoom self.old (text_next n) }
+        ensures { Grows self.old (text_next n) self.new }
+    {
+        self.words(b" ");
+        self.number(n);
+    }
+
+    // A pair after a space.
+    pub fn pair(&mut self, a: usize, b: usize)
+        requires { HasRoom self.old (text_pair a b) }
+        ensures { Grows self.old (text_pair a b) self.new }
+    {
+        self.next(a);
+        self.words(b"-");
+        self.number(b);
+    }
 }

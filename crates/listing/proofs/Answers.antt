@@ -7,7 +7,6 @@ use native.Mathlib.Omega.{arith}
 use Rattle.listing.specs.Rules.{Refusal, passed, refused}
 use Rattle.listing.specs.Answer.{Answer, done, refusal}
 use Rattle.listing.specs.Form.{read_says, read_by}
-use Rattle.listing.specs.Reason.{number, place}
 use Rattle.listing.specs.declared.reason.Reason.{Reason}
 use Rattle.listing.proofs.Reasons.{reasons_apart}
 

@@ -2,6 +2,8 @@
 ghost use Rattle.std.specs.Prelude.{◌≡◌, ◌≤◌};
 ghost use Rattle.listing.specs.Kinds.{KINDS};
 
+use std::fmt;
+
 // A byte that names no kind.
 #[derive(Clone, Copy)]
 pub struct Unlisted {
@@ -82,6 +84,25 @@ impl From<u8> for Kind {
             8 => Kind::StoreFence,
             9 => Kind::AcquirePc,
             _ => Kind::Other(Unlisted { byte }),
+        }
+    }
+}
+
+// The kinds' words.
+impl fmt::Display for Kind {
+    fn fmt<W: fmt::Write>(&self, f: &mut fmt::Formatter<W>) -> fmt::Result {
+        match self {
+            Kind::Plain => f.write_str("plain"),
+            Kind::Read => f.write_str("read"),
+            Kind::Write => f.write_str("write"),
+            Kind::Rmw => f.write_str("read-modify-write"),
+            Kind::Fence => f.write_str("fence"),
+            Kind::Acquire => f.write_str("acquire read"),
+            Kind::Release => f.write_str("release write"),
+            Kind::LoadFence => f.write_str("load fence"),
+            Kind::StoreFence => f.write_str("store fence"),
+            Kind::AcquirePc => f.write_str("acquirePC read"),
+            Kind::Other(other) => write!(f, "kind {}", other.byte),
         }
     }
 }

@@ -1,23 +1,38 @@
 // The need for order.
 ghost use Rattle.std.specs.Prelude.{◌≡◌, ◌<◌};
 ghost use Rattle.listing.specs.Kinds.{KINDS};
-ghost use Rattle.order.specs.Need.{Asked, entry};
+ghost use Rattle.listing.specs.Inner.Coded.{number_of};
 ghost use Rattle.order.specs.Need as rules;
-ghost use Rattle.order.specs.Inner.Table.{number_of};
+ghost use Rattle.order.specs.Inner.Asking.{asked};
+ghost use Rattle.order.specs.Inner.Table.{entry_of};
 
-use crate::QUESTIONS;
+use crate::Question;
+use listing::Kind;
 
-// What the table says of a pair, by question and the kinds of its ends: 0 leave, 1 need, 2 leave unless an RMW is inside.
-pub fn need(question: u8, first: u8, second: u8) -> u8
-    requires { Asked question × (first < KINDS) × (second < KINDS) }
-    ensures { result ≡ number_of (entry (rules.question question) first second) }
-{
-    let row = (question - 1) as usize * listing::KINDS + first as usize;
-    NEED[row * listing::KINDS + second as usize]
+// What the table says of a pair.
+#[derive(Clone, Copy)]
+pub enum Needed {
+    Never,
+    Always,
+    IfRmwInside,
 }
 
-// Each entry with its question, first kind and second kind.
-const NEED: [u8; QUESTIONS * listing::KINDS * listing::KINDS] = [
+// The same by question and the kinds of its ends.
+pub fn need(question: Question, first: Kind, second: Kind) -> Needed
+    requires { (number_of first < KINDS) × (number_of second < KINDS) }
+    ensures { entry_of result ≡ rules.entry (rules.question (asked question)) (number_of first) (number_of second) }
+{
+    let row = usize::from(question.number() - 1) * Kind::COUNT + usize::from(first.number());
+    match NEED[row * Kind::COUNT + usize::from(second.number())] {
+        0 => Needed::Never,
+        1 => Needed::Always,
+        _ => Needed::IfRmwInside,
+    }
+}
+
+// Each entry with its question, first kind and second kind: 0 leave, 1 need, 2 leave unless an RMW is inside. Numbers, since what may not change
+// asks for one table of 600 numbers, whose rule one computed test holds (`right_at`).
+const NEED: [u8; Question::COUNT * Kind::COUNT * Kind::COUNT] = [
     0, // 1: 0 then 0
     0, // 1: 0 then 1
     0, // 1: 0 then 2

@@ -57,7 +57,6 @@ module _ (s : List ℕ) where
   -- what the search stands on
   pub formed_housed : Formed s → Housed s
   formed_housed e = record {
-    whole = formed_whole s e;
     low = λ a h. (let few = (formed_headed s e).routines in omega (arith, few, (valid a (omega (arith, nodes_length s))).routine));
     home = home;
   }

@@ -3,30 +3,28 @@ use mathlib.Core.Path.{◌≡◌, sym, ap, ap₂, ◌∙◌}
 use mathlib.Core.Logic.{◌↔◌}
 use mathlib.Core.List.{List}
 use Prim.Native.Nat.{ℕ}
+use Rattle.std.specs.Prelude.{Result, IfOk}
 use Rattle.listing.specs.Bytes.{count_n, count_f}
 use Rattle.listing.specs.Rules.{Refusal, refused, first_of, FirstRow, NoneApplies}
 use Rattle.listing.specs.Answer.{done, refusal}
 use Rattle.listing.specs.Form.{read_says, read_by}
-use Rattle.listing.specs.declared.Listing.{Listing}
-use Rattle.listing.specs.declared.ReadAnswer.{ReadAnswer}
-use Rattle.listing.specs.declared.ReadAnswer.TheVariants.{Good, Refused}
+use Rattle.listing.specs.declared.reason.Reason.{Reason}
 use Rattle.listing.proofs.Table.{exact, given, none_applies, lets_pass}
-use Rattle.listing.proofs.Answers.{refused_by, done_by, met_refusal, met_good, says_apart}
+use Rattle.listing.proofs.Answers.{refused_by, done_by, says_apart}
 use Rattle.reader.specs.Read.{read_rules, Admitted, read_of}
 
 -- what a caller that met a refusal learns
-pub read_refused : (s : List ℕ) (r : ReadAnswer) (k p : ℕ) → read_says r ≡ read_of s → r ≡ Refused k p → first_of (read_rules s) ≡ refused k p
+pub read_refused : (s : List ℕ) (k p : ℕ) → refusal k p ≡ read_of s → first_of (read_rules s) ≡ refused k p
 unfolding read_of
-read_refused s r k p e is = met_refusal (first_of (read_rules s)) (count_n s) (count_f s) r e k p is
+read_refused s k p e = refused_by (first_of (read_rules s)) (count_n s) (count_f s) k p (sym e)
 
 -- what a caller that met a good listing learns
-pub read_good : (s : List ℕ) (r : ReadAnswer) (l : Listing) → read_says r ≡ read_of s → r ≡ Good l → Admitted s × (l.nodes ≡ count_n s) ×
-    (l.routines ≡ count_f s)
+pub read_good : (s : List ℕ) (n f : ℕ) → done n f 0 ≡ read_of s → Admitted s × (n ≡ count_n s) × (f ≡ count_f s)
 unfolding read_of
-read_good s r l e is = met_good (first_of (read_rules s)) (count_n s) (count_f s) r e l is
+read_good s n f e = done_by (first_of (read_rules s)) (count_n s) (count_f s) n f (sym e)
 
 -- REFUSAL k AT p IS GIVEN EXACTLY IF RULE k APPLIES AT p AND NO EARLIER RULE DOES
-pub refused_exactly : (s : List ℕ) (r : ReadAnswer) → read_says r ≡ read_of s → (k p : ℕ) → (read_says r ≡ refusal k p) ↔ FirstRow (read_rules s) k p
+pub refused_exactly : (s : List ℕ) (r : Result (List ℕ) Reason) → read_says r ≡ read_of s → (k p : ℕ) → (read_says r ≡ refusal k p) ↔ FirstRow (read_rules s) k p
 unfolding read_of
 refused_exactly s r e k p = (
   λ h. exact (read_rules s) k p (refused_by (first_of (read_rules s)) (count_n s) (count_f s) k p (sym e ∙ h)),
@@ -34,7 +32,7 @@ refused_exactly s r e k p = (
 )
 
 -- A LISTING IS READ EXACTLY IF NO RULE APPLIES, AND THEN WITH ITS COUNTS
-pub good_exactly : (s : List ℕ) (r : ReadAnswer) → read_says r ≡ read_of s → (n f : ℕ)
+pub good_exactly : (s : List ℕ) (r : Result (List ℕ) Reason) → read_says r ≡ read_of s → (n f : ℕ)
     → (read_says r ≡ done n f 0) ↔ (NoneApplies (read_rules s) × (n ≡ count_n s) × (f ≡ count_f s))
 unfolding read_of
 good_exactly s r e n f = (
@@ -47,5 +45,6 @@ good_exactly s r e n f = (
 )
 
 -- ANY TWO ANSWERS THAT MEET THE PROMISE ARE EQUAL
-pub one_answer : (s : List ℕ) (a b : ReadAnswer) → read_says a ≡ read_of s → read_says b ≡ read_of s → a ≡ b
-one_answer s a b ea eb = says_apart a b (ea ∙ sym eb)
+pub one_answer : (s : List ℕ) (a b : Result (List ℕ) Reason) → IfOk a (λ l. l ≡ s) → IfOk b (λ l. l ≡ s) → read_says a ≡ read_of s → read_says b ≡ read_of s
+    → a ≡ b
+one_answer s a b sa sb ea eb = says_apart s a b sa sb (ea ∙ sym eb)

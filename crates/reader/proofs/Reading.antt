@@ -5,13 +5,10 @@ use Prim.Native.Nat.{ℕ, ◌≤◌, ◌<◌}
 use native.Mathlib.Omega.{arith}
 use Rattle.listing.specs.Bytes.{count_f, count_n, nodes_of}
 use Rattle.listing.specs.Rules.{Refusal, refused, first_of}
-use Rattle.listing.specs.Answer.{refusal}
-use Rattle.listing.specs.Form.{form_rules, Formed, read_says, read_by, form_of}
-use Rattle.listing.specs.declared.Listing.{Listing}
-use Rattle.listing.specs.declared.ReadAnswer.{ReadAnswer}
-use Rattle.listing.specs.declared.ReadAnswer.TheVariants.{Good, Refused}
+use Rattle.listing.specs.Answer.{done, refusal}
+use Rattle.listing.specs.Form.{form_rules, Formed, read_by, form_of}
 use Rattle.listing.proofs.Table.{pass, stop}
-use Rattle.listing.proofs.Answers.{met_refusal, met_good}
+use Rattle.listing.proofs.Answers.{refused_by, done_by}
 use Rattle.order.specs.Entered.{Entered}
 use Rattle.order.proofs.Entering.{entered?}
 use Rattle.rows.specs.Inner.Least.{Least}
@@ -20,13 +17,13 @@ use Rattle.reader.proofs.Dead.{rows_none, rows_first}
 
 module _ (s : List ℕ) where
   -- what is learnt of the form
-  pub form_refused : (r : ReadAnswer) (k p : ℕ) → read_says r ≡ form_of s → r ≡ Refused k p → first_of (form_rules s) ≡ refused k p
+  pub form_refused : (k p : ℕ) → refusal k p ≡ form_of s → first_of (form_rules s) ≡ refused k p
   unfolding form_of
-  form_refused r k p e is = met_refusal (first_of (form_rules s)) (count_n s) (count_f s) r e k p is
+  form_refused k p e = refused_by (first_of (form_rules s)) (count_n s) (count_f s) k p (sym e)
 
-  pub form_good : (r : ReadAnswer) (l : Listing) → read_says r ≡ form_of s → r ≡ Good l → Formed s × (l.nodes ≡ count_n s) × (l.routines ≡ count_f s)
+  pub form_good : (n f : ℕ) → done n f 0 ≡ form_of s → Formed s × (n ≡ count_n s) × (f ≡ count_f s)
   unfolding form_of
-  form_good r l e is = met_good (first_of (form_rules s)) (count_n s) (count_f s) r e l is
+  form_good n f e = done_by (first_of (form_rules s)) (count_n s) (count_f s) n f (sym e)
 
   -- the form refuses
   pub by_form : (k p : ℕ) → first_of (form_rules s) ≡ refused k p → refusal k p ≡ read_of s

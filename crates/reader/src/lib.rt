@@ -3,27 +3,20 @@
 
 mod search;
 
-ghost use Rattle.std.specs.Prelude.{◌≡◌};
+ghost use Rattle.std.specs.Prelude.{◌≡◌, IfOk};
 ghost use Rattle.listing.specs.Form.{read_says};
 ghost use Rattle.reader.specs.Read.{read_of};
 
-use listing::ReadAnswer;
+use listing::{Listing, Reason};
 
-// A listing is read, or refused by the first of the refusals 2 to 12 and 18 that applies.
-pub fn read(bytes: &[u8]) -> ReadAnswer
-    ensures { read_says result ≡ read_of bytes.now }
+// The listing that the bytes are, or the first of the refusals 2 to 12 and 18 that applies.
+pub fn read(bytes: &[u8]) -> Result<Listing<'_>, Reason>
+    ensures says { read_says result ≡ read_of bytes.now }
+    ensures same { IfOk result (λ l. l ≡ bytes.now) }
 {
-    match listing::form(bytes) {
-        ReadAnswer::Refused { number, place } => ReadAnswer::Refused { number, place },
-        ReadAnswer::Good(l) => {
-            let dead = search::first_dead(bytes);
-            if dead < l.nodes {
-                return ReadAnswer::Refused {
-                    number: 18,
-                    place: dead,
-                };
-            }
-            ReadAnswer::Good(l)
-        }
+    let listing = listing::form(bytes)?;
+    match search::first_dead(&listing) {
+        Some(node) => Err(Reason::Unentered { node }),
+        None => Ok(listing),
     }
 }

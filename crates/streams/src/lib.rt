@@ -19,6 +19,7 @@ pub fn read_full<R: Read>(from: &mut R, buf: &mut [u8]) -> io::Result<usize>
     ensures partly { OnErr result (ConsumesSome (R.remaining from.old) (R.remaining from.new) buf.new) }
 {
     let mut done: usize = 0;
+    // No `for`: a turn goes on by as many bytes as came, which `read_exact` doesn't tell of an input that is too short.
     while done < buf.len() {
         let n = from.read(&mut buf[done..])?;
         if n == 0 {

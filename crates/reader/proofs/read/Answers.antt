@@ -1,33 +1,31 @@
 -- `reader::read` meets its contract.
-use mathlib.Core.Path.{◌≡◌, sym, ap, ◌∙◌}
+use mathlib.Core.Path.{◌∙◌}
 use native.Mathlib.Omega.{arith}
-use Rattle.listing.specs.Bytes.{count_f, count_n}
-use Rattle.listing.specs.Form.{Formed, read_says}
+use Rattle.std.proofs.lemmas.Result.{err_from_is_err_and}
+use Rattle.listing.specs.Form.{Formed}
 use Rattle.reader.proofs.Admitted.{formed_housed}
 use Rattle.reader.proofs.Reading.{form_refused, form_good, by_form, by_dead, by_none}
 use Rattle.reader.proofs.read.Goals as goal
-use Rattle.reader.proofs.read.Goals.{In-Good}
+use Rattle.reader.proofs.read.Goals.{In_ok-listing}
 
 -- the form is right
-good : (c : In-Good)
-    → let bytes = c.args.bytes.now in
-    let l = c.in-Good.l in
-    Formed bytes × (l.nodes ≡ count_n bytes) × (l.routines ≡ count_f bytes)
-good c = form_good _ _ _ c.form.ensures c.in-Good.is
+good : (c : In_ok-listing) → Formed c.args.bytes.now
+good c = (form_good _ _ _ c.in_ok-listing.ensures.says).0
 
-pub first_dead-dead-requires : goal.first_dead-dead-requires
-first_dead-dead-requires c = formed_housed _ (good c).0
+pub returns-in_err-listing-clause-says : goal.returns-in_err-listing-clause-says
+returns-in_err-listing-clause-says c =
+    let p = err_from_is_err_and c.from_residual.result c.from_residual.ensures.1 in
+    rw (p.1, p.2) (by_form _ _ _ (form_refused _ _ _ c.in_err-listing.ensures.says))
 
-pub returns-then-dead-l : goal.returns-then-dead-l
-returns-then-dead-l c =
-    let g = good (goal.at.returns-then-dead-l c).In-Good in
-    by_dead _ g.0 _ c.first_dead-dead.ensures (omega (arith, g.1))
+pub first_dead-requires : goal.first_dead-requires
+first_dead-requires c = rw c.in_ok-listing.ensures.same (formed_housed _ (good (goal.at.first_dead-requires c).In_ok-listing))
 
-pub returns-in-Refused : goal.returns-in-Refused
-returns-in-Refused c = by_form _ _ _ (form_refused _ _ _ _ c.form.ensures c.in-Refused.is)
+pub returns-in-Some-clause-says : goal.returns-in-Some-clause-says
+returns-in-Some-clause-says c =
+    let dead = rw c.in_ok-listing.ensures.same at c.in-Some.ensures in
+    by_dead _ (good (goal.at.returns-in-Some-clause-says c).In_ok-listing) _ dead.1 dead.0
 
-pub returns-else-dead-l : goal.returns-else-dead-l
-returns-else-dead-l c =
-    let g = good (goal.at.returns-else-dead-l c).In-Good in
-    sym (ap read_says c.in-Good.is) ∙ c.form.ensures
-    ∙ by_none _ g.0 _ c.first_dead-dead.ensures (omega (arith, g.1))
+pub returns-in-None-clause-says : goal.returns-in-None-clause-says
+returns-in-None-clause-says c =
+    let none = rw c.in_ok-listing.ensures.same at c.in-None.ensures in
+    c.in_ok-listing.ensures.says ∙ by_none _ (good (goal.at.returns-in-None-clause-says c).In_ok-listing) _ none (omega arith)

@@ -5,7 +5,7 @@ use Rattle.reader.specs.Inner.Search.{Seen}
 use Rattle.reader.proofs.search.entries.Given as goal
 
 abbrev pub invariant-loop-a : goal.invariant-loop-a
-invariant-loop-a l = (l.a ≤ l.n) × Seen (nodes_of l.bytes) l.routines l.found l.a
+invariant-loop-a l = (l.a ≤ l.n) × Seen (nodes_of l.listing) l.routines l.found l.a
 
 abbrev pub decreases-loop-a : goal.decreases-loop-a
 decreases-loop-a l = l.n - l.a

@@ -8,18 +8,18 @@ use Rattle.reader.proofs.search.follow.Goals as goal
 
 pub loop-a-init : goal.loop-a-init
 loop-a-init c =
-    let bytes = c.args.bytes.now in
-    let few = c.node_count-n.ensures in
-    let starts = hunt_starts (nodes_of bytes) _ few.1 (few.0 ∙ sym (nodes_length bytes)) _ _ _ (rw few.0 c.requires.1) c.clear.ensures
+    let listing = c.args.listing.now in
+    let few = c.nodes-n.ensures.count in
+    let starts = hunt_starts (nodes_of listing) _ few.1 (few.0 ∙ sym (nodes_length listing)) _ _ _ (rw few.0 c.requires.1) c.clear.ensures
     c.pour.ensures in
     (few.0, few.1, starts, c.next-a.ensures)
 
 pub trail-requires : goal.trail-requires
 trail-requires c =
     let inv = c.loop-a.invariant in
-    let bytes = c.args.bytes.now in
+    let listing = c.args.listing.now in
     let a = c.loop-a-test.true in
-    let takes = hunt_takes (nodes_of bytes) _ inv.1 (inv.0 ∙ sym (nodes_length bytes)) _ _ _ _ a (inv.3.here a) c.take_out.ensures inv.2 in
+    let takes = hunt_takes (nodes_of listing) _ inv.1 (inv.0 ∙ sym (nodes_length listing)) _ _ _ _ a (inv.3.here a) c.take_out.ensures inv.2 in
     (c.requires.0, rw inv.0 at takes)
 
 pub loop-a-smaller : goal.loop-a-smaller
@@ -32,6 +32,6 @@ loop-a-smaller c =
 pub returns : goal.returns
 returns c =
     let inv = c.loop-a.invariant in
-    let bytes = c.args.bytes.now in
-    let ends = hunt_ends (nodes_of bytes) _ inv.1 (inv.0 ∙ sym (nodes_length bytes)) _ _ inv.2 (λ z h. inv.3.none z (omega arith) (omega arith)) in
+    let listing = c.args.listing.now in
+    let ends = hunt_ends (nodes_of listing) _ inv.1 (inv.0 ∙ sym (nodes_length listing)) _ _ inv.2 (λ z h. inv.3.none z (omega arith) (omega arith)) in
     rw inv.0 at ends

@@ -2,6 +2,7 @@
 -- `a` is the least of that.
 use mathlib.Core.Path.{◌≡◌}
 use Prim.Native.Nat.{◌≤◌}
+use Rattle.std.specs.Prelude.{None}
 use Rattle.listing.specs.Bytes.{count_n, nodes_of}
 use Rattle.rows.specs.Inner.Least.{Least}
 use Rattle.rows.specs.Inner.Rows.{Has}
@@ -10,7 +11,7 @@ use Rattle.reader.proofs.Hunting.{undone}
 use Rattle.reader.proofs.search.follow.Given as goal
 
 abbrev pub invariant-loop-a : goal.invariant-loop-a
-invariant-loop-a l = (l.n ≡ count_n l.bytes) × (l.n ≤ 128) × Hunt (nodes_of l.bytes) l.n l.found l.waiting l.n × Least (Has l.waiting 0) 0 l.n l.a
+invariant-loop-a l = (l.n ≡ count_n l.listing) × (l.n ≤ 128) × Hunt (nodes_of l.listing) l.n l.found l.waiting None × Least (Has l.waiting 0) 0 l.n l.a
 
 abbrev pub decreases-loop-a : goal.decreases-loop-a
 decreases-loop-a l = undone l.found l.waiting l.n
