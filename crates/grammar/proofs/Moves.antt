@@ -70,7 +70,7 @@ no_item x a k = elim k as (λ j. NoItem j → Stuck (inside x a) j) [
 ]
 
 -- the text's end is the only word that is no word
-at_end : (k : Said) → is_end k ≡ true → k ≡ said.End
+pub at_end : (k : Said) → is_end k ≡ true → k ≡ said.End
 at_end k = elim k as (λ j. is_end j ≡ true → j ≡ said.End) [
   | said.End ↦ λ h. refl
   | _ ↦ λ h. absurd (true≢false (sym h))

@@ -67,3 +67,6 @@ small_number w e =
 pub right_length : (w : List ℕ) → (length w ≡ 0 → ⊥) → length w ≤ DIGITS → ReadTo w 0 0
 unfolding location_from location_of number
 right_length w some few = rw (le-leb 1 (length w) (omega arith), le-leb (length w) DIGITS few)
+
+-- what `words::tell::location` stands on
+pub ruleset digits = (too_short, too_long, right_length, no_digit, digit_read, digit_far, all_read)

@@ -11,7 +11,7 @@ const DIGITS: usize = 5;
 const FARTHEST: usize = 65535;
 
 // The location that a word says, if it says one.
-#[tactic(auto, using(crate::proofs::Digits::too_short, crate::proofs::Digits::too_long, crate::proofs::Digits::right_length, crate::proofs::Digits::no_digit, crate::proofs::Digits::digit_read, crate::proofs::Digits::digit_far, crate::proofs::Digits::all_read))]
+#[tactic(auto, using(crate::proofs::Digits::digits))]
 fn location(w: &[u8]) -> Option<usize>
     ensures { result ≡ location_of w.now }
 {
@@ -34,7 +34,7 @@ fn location(w: &[u8]) -> Option<usize>
     Some(n)
 }
 
-// What a word says.
+// What a word says. A `match` on the spellings proves its arms too, but not the last: it has as many ways in as there are bytes to differ.
 #[tactic(auto, unfolding(crate::specs::Words::meaning))]
 pub fn meaning(w: &[u8]) -> Word
     ensures { SaysWord w.now result }

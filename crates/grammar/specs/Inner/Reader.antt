@@ -175,6 +175,7 @@ pub record Looked (s : List ℕ) (old new : Cursor) (w : Said) : Type 0 where
   pub ahead : Ahead s old.end (word_of w new)
   pub passed : new.passed ≡ old.passed
   pub few : old.passed ≤ old.end
+  pub fits : new.end < 18446744073709551616
 
 -- so many nodes more are passed, and no word is looked at
 pub record Passed (old : Cursor) (n : ℕ) (new : Cursor) : Type 0 where

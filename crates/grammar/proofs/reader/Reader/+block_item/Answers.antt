@@ -37,8 +37,10 @@ block-item-requires t c =
 pub block-returns-in_err-item : goal.block-returns-in_err-item
 block-returns-in_err-item t c =
     let p = err_from_is_err_and c.from_residual.result c.from_residual.ensures.1 in
+    let o = c.args in
     let g = c.loop-self.invariant.0 in
-    rw p.1 (item_bad _ _ _ _ _ g c.item.new.self (item_read c.args.self.now.text c.args.depth c.loop-self.self c.item.new.self g.text (Err _) c.loop-self.word c.in_err-item.ensures))
+    let read = item_read o.self.now.text o.depth c.loop-self.self c.item.new.self g.text (Err _) c.loop-self.word c.in_err-item.ensures in
+    rw p.1 (item_bad _ _ _ _ _ g c.item.new.self read)
 
 -- one item more was read
 read : (t : ℕ) (c : block-After-look-word-in-loop-self t) → ItemRead c.args.self.now.text c.loop-self.word c.args.depth c.loop-self.self c.item.new.self (Ok tt)
@@ -99,9 +101,10 @@ pub item-returns-in_err-block-in-Either : goal.item-returns-in_err-block-in-Eith
 item-returns-in_err-block-in-Either t c =
     let p = err_from_is_err_and c.from_residual-in_err-block-in-Either.result c.from_residual-in_err-block-in-Either.ensures.1 in
     let pass = c.pass-in-Either.ensures in
-    rw p.1
-    (first_bad _ _ _ _ c.requires _ _ refl pass _ c.in_ok-inside-in-Either.ensures c.in-Either.is c.block-in-Either.new.self
-    (block_read c.args.self.now.text c.in_ok-inside-in-Either.inside c.pass-in-Either.new.self c.block-in-Either.new.self pass.text (Err _) c.in_err-block-in-Either.ensures))
+    let inner = c.in_ok-inside-in-Either.inside in
+    let half = c.block-in-Either.new.self in
+    let read = block_read c.args.self.now.text inner c.pass-in-Either.new.self half pass.text (Err _) c.in_err-block-in-Either.ensures in
+    rw p.1 (first_bad _ _ _ _ c.requires _ _ refl pass _ c.in_ok-inside-in-Either.ensures c.in-Either.is half read)
 
 pub item-block-requires-in-Either-2 : goal.item-block-requires-in-Either-2
 item-block-requires-in-Either-2 t c =
@@ -127,7 +130,9 @@ item-returns-in-Fence t c = item_fence _ _ _ _ c.requires _ _ refl c.pass-in-Fen
 pub item-returns-in_ok-inside-in-Loop : goal.item-returns-in_ok-inside-in-Loop
 item-returns-in_ok-inside-in-Loop t c =
     let pass = c.pass-in-Loop.ensures in
-    item_loop _ _ _ _ c.requires _ _ refl pass _ c.in_ok-inside-in-Loop.ensures c.in-Loop.is refl _ _ (block_read c.args.self.now.text c.in_ok-inside-in-Loop.inside c.pass-in-Loop.new.self c.block.new.self pass.text _ c.block.ensures)
+    let inner = c.in_ok-inside-in-Loop.inside in
+    item_loop _ _ _ _ c.requires _ _ refl pass _ c.in_ok-inside-in-Loop.ensures c.in-Loop.is refl _ _
+    (block_read c.args.self.now.text inner c.pass-in-Loop.new.self c.block.new.self pass.text _ c.block.ensures)
 
 pub item-returns-in_ok-block-in-Either : goal.item-returns-in_ok-block-in-Either
 item-returns-in_ok-block-in-Either t c =
