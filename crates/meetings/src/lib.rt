@@ -6,11 +6,11 @@ mod overlaps;
 
 ghost use Rattle.std.specs.Prelude.{◌≤◌};
 ghost use Rattle.listing.specs.Bytes.{count_n, nodes_of};
-ghost use Rattle.listing.specs.Inner.Whole.{Whole};
 ghost use Rattle.rows.specs.Inner.Rows.{Low, Holds, Members};
 ghost use Rattle.meetings.specs.Inner.Meeting.{FromSome, LiveAmong, Meeting};
 
-pub use nodes::{Pick, gather};
+use listing::Listing;
+pub use nodes::gather;
 use rows::WORDS;
 
 // All that the rows of m have for some node of u, into the one row of s.
@@ -42,17 +42,16 @@ fn live_accesses(
 }
 
 // Who may meet whom: of those that overlap, the accesses that live.
-pub fn meet_rows(bytes: &[u8], m: &mut [u64; WORDS])
-    requires { Whole bytes.now }
-    ensures { Holds m.new (count_n bytes.now) (Meeting (nodes_of bytes.now)) }
+pub fn meet_rows(listing: &Listing, m: &mut [u64; WORDS])
+    ensures { Holds m.new (count_n listing.now) (Meeting (nodes_of listing.now)) }
 {
-    let n = listing::node_count(bytes);
+    let n = listing.nodes();
     let mut accesses = [0u64; 2];
     let mut writers = [0u64; 2];
     let mut live = [0u64; 2];
-    gather(0, bytes, Pick::Access, &mut accesses);
-    gather(0, bytes, Pick::Writer, &mut writers);
-    overlaps::overlap_rows(bytes, m);
+    gather(listing, order::is_access, &mut accesses);
+    gather(listing, order::is_writer, &mut writers);
+    overlaps::overlap_rows(listing, m);
     live_accesses(n, &accesses, &writers, m, &mut live);
     reach::keep_rows(n, &live, m);
     reach::keep_columns(n, &live, m);

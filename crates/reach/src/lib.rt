@@ -7,9 +7,9 @@ ghost use Rattle.rows.specs.Inner.Growing.{RowGrown};
 ghost use Rattle.reach.specs.Inner.Whole.{Through, Then, Converse, StartsIn, EndsIn, Among, Stays, Passed, Turning};
 ghost use Rattle.reach.specs.Inner.Links.{Linked, Walked, Calm, Pulled, Settled, Begun};
 ghost use Rattle.listing.specs.Bytes.{count_n, nodes_of};
-ghost use Rattle.listing.specs.Inner.Whole.{Whole};
 ghost use Rattle.order.specs.Walks.{Succ};
 
+use listing::Listing;
 use rows::WORDS;
 
 // Lets k lie inside: whoever reaches k reaches all that k reaches.
@@ -41,22 +41,21 @@ fn link(n: usize, w: &mut [u64], a: usize, b: u8)
     requires { (n ≤ 128) × (2 * a + 1 < length w.old) }
     ensures { Linked w.old w.new n a b }
 {
-    let y = listing::wide(b);
+    let y = usize::from(b);
     if y < n {
         rows::put(w, a, y);
     }
 }
 
 // The links of a listing.
-fn links(bytes: &[u8], w: &mut [u64; WORDS])
-    requires { Whole bytes.now }
-    ensures { Holds w.new (count_n bytes.now) (Succ (nodes_of bytes.now)) }
+fn links(listing: &Listing, w: &mut [u64; WORDS])
+    ensures { Holds w.new (count_n listing.now) (Succ (nodes_of listing.now)) }
 {
-    let n = listing::node_count(bytes);
+    let n = listing.nodes();
     rows::clear(w);
     for a in 0..n {
-        link(n, w, a, listing::first_at(bytes, a));
-        link(n, w, a, listing::second_at(bytes, a));
+        link(n, w, a, listing.first(a));
+        link(n, w, a, listing.second(a));
     }
 }
 
@@ -65,7 +64,7 @@ fn pull(n: usize, m: &[u64; 2], w: &mut [u64; WORDS], a: usize, b: u8)
     requires { (n ≤ 128) × (a < n) }
     ensures { Pulled m.now w.old w.new n a b }
 {
-    let y = listing::wide(b);
+    let y = usize::from(b);
     if n <= y {
         return;
     }
@@ -76,16 +75,14 @@ fn pull(n: usize, m: &[u64; 2], w: &mut [u64; WORDS], a: usize, b: u8)
 }
 
 // Puts into each row, from the last to the first, what its node's successors in m reach.
-fn sweep(bytes: &[u8], m: &[u64; 2], w: &mut [u64; WORDS])
-    requires { Whole bytes.now × Begun (nodes_of bytes.now) m.now w.old (count_n bytes.now) }
-    ensures { Begun (nodes_of bytes.now) m.now w.new (count_n bytes.now) }
+fn sweep(listing: &Listing, m: &[u64; 2], w: &mut [u64; WORDS])
+    requires { Begun (nodes_of listing.now) m.now w.old (count_n listing.now) }
+    ensures { Begun (nodes_of listing.now) m.now w.new (count_n listing.now) }
 {
-    let n = listing::node_count(bytes);
-    let mut a = n;
-    while 0 < a {
-        a -= 1;
-        pull(n, m, w, a, listing::first_at(bytes, a));
-        pull(n, m, w, a, listing::second_at(bytes, a));
+    let n = listing.nodes();
+    for a in (0..n).rev() {
+        pull(n, m, w, a, listing.first(a));
+        pull(n, m, w, a, listing.second(a));
     }
 }
 
@@ -94,7 +91,7 @@ fn calm(n: usize, m: &[u64; 2], w: &[u64; WORDS], a: usize, b: u8) -> bool
     requires { (n ≤ 128) × (a < n) }
     ensures { Vouches result (Calm m.now w.now n a b) }
 {
-    let y = listing::wide(b);
+    let y = usize::from(b);
     if n <= y {
         return true;
     }
@@ -105,16 +102,15 @@ fn calm(n: usize, m: &[u64; 2], w: &[u64; WORDS], a: usize, b: u8) -> bool
 }
 
 // Whether every row has all that its node's successors in m reach, so that no sweep would add anything.
-fn settled(bytes: &[u8], m: &[u64; 2], w: &[u64; WORDS]) -> bool
-    requires { Whole bytes.now }
-    ensures { Vouches result (Settled (nodes_of bytes.now) m.now w.now (count_n bytes.now)) }
+fn settled(listing: &Listing, m: &[u64; 2], w: &[u64; WORDS]) -> bool
+    ensures { Vouches result (Settled (nodes_of listing.now) m.now w.now (count_n listing.now)) }
 {
-    let n = listing::node_count(bytes);
+    let n = listing.nodes();
     for a in 0..n {
-        if !calm(n, m, w, a, listing::first_at(bytes, a)) {
+        if !calm(n, m, w, a, listing.first(a)) {
             return false;
         }
-        if !calm(n, m, w, a, listing::second_at(bytes, a)) {
+        if !calm(n, m, w, a, listing.second(a)) {
             return false;
         }
     }
@@ -125,18 +121,18 @@ fn settled(bytes: &[u8], m: &[u64; 2], w: &[u64; WORDS]) -> bool
 const SWEEPS: usize = 8;
 
 // The walks of a listing that only nodes of m lie inside of.
-pub fn walks(bytes: &[u8], m: &[u64; 2], w: &mut [u64; WORDS])
-    requires { Whole bytes.now }
-    ensures { Holds w.new (count_n bytes.now) (Walked (nodes_of bytes.now) m.now) }
+pub fn walks(listing: &Listing, m: &[u64; 2], w: &mut [u64; WORDS])
+    ensures { Holds w.new (count_n listing.now) (Walked (nodes_of listing.now) m.now) }
 {
-    links(bytes, w);
-    for i in 0..SWEEPS {
-        sweep(bytes, m, w);
-        if settled(bytes, m, w) {
+    let n = listing.nodes();
+    links(listing, w);
+    for _ in 0..SWEEPS {
+        sweep(listing, m, w);
+        if settled(listing, m, w) {
             return;
         }
     }
-    close(listing::node_count(bytes), m, w);
+    close(n, m, w);
 }
 
 // Puts into row x of v what is two steps away, by r and then by w.

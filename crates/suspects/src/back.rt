@@ -1,7 +1,6 @@
 // Which pairs lie on a chain: those whose second access leads back to their first.
 ghost use Rattle.std.specs.Prelude.{◌<◌, ◌≤◌};
 ghost use Rattle.listing.specs.Bytes.{count_n, nodes_of};
-ghost use Rattle.listing.specs.Inner.Whole.{Whole};
 ghost use Rattle.order.specs.Walks.{Pair};
 ghost use Rattle.rows.specs.Inner.Rows.{Holds};
 ghost use Rattle.rows.specs.Inner.Growing.{RowGrown};
@@ -9,7 +8,8 @@ ghost use Rattle.meetings.specs.Inner.Meeting.{Meeting};
 ghost use Rattle.suspects.specs.Inner.Back.{RowBack};
 ghost use Rattle.suspects.specs.Inner.Suspect.{OnChain};
 
-use meetings::{Pick, gather};
+use listing::Listing;
+use meetings::gather;
 use rows::WORDS;
 
 // The pairs from a whose end meets a node of row a of h, into row a of w.
@@ -46,19 +46,19 @@ fn back_rows(n: usize, p: &[u64; WORDS], m: &[u64; WORDS], h: &[u64; WORDS], w: 
 
 // The pairs on a chain. h is for the work: who leads back to whom. w keeps the pairs turned round before.
 pub fn chain_rows(
-    bytes: &[u8],
+    listing: &Listing,
     p: &[u64; WORDS],
     m: &[u64; WORDS],
     h: &mut [u64; WORDS],
     w: &mut [u64; WORDS],
 )
-    requires { Whole bytes.now × Holds p.now (count_n bytes.now) (Pair (nodes_of bytes.now))
-        × Holds m.now (count_n bytes.now) (Meeting (nodes_of bytes.now)) }
-    ensures { Holds w.new (count_n bytes.now) (OnChain (nodes_of bytes.now)) }
+    requires { Holds p.now (count_n listing.now) (Pair (nodes_of listing.now))
+        × Holds m.now (count_n listing.now) (Meeting (nodes_of listing.now)) }
+    ensures { Holds w.new (count_n listing.now) (OnChain (nodes_of listing.now)) }
 {
-    let n = listing::node_count(bytes);
+    let n = listing.nodes();
     let mut every = [0u64; 2];
-    gather(0, bytes, Pick::Every, &mut every);
+    gather(listing, |_| true, &mut every);
     reach::turn(n, p, w);
     reach::compose(n, m, w, h);
     reach::close(n, &every, h);
