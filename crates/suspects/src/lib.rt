@@ -62,7 +62,8 @@ pub fn suspects(
     c: &mut [u64; WORDS],
     i: &mut [u64; WORDS],
 )
-    ensures { Ready (asked question) listing.now p.new m.new c.new }
+    ensures ready { Ready (asked question) listing.now p.new m.new c.new }
+    ensures whole { Whole listing.now }
 {
     pair_rows(listing, p);
     meetings::meet_rows(listing, m);
