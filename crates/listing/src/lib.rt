@@ -49,7 +49,8 @@ pub fn copy(from: &[u8], to: &mut [u8])
     requires { length from.now ≤ length to.old }
     ensures { to.new ≡ filled from.now to.old }
 {
-    to[..from.len()].copy_from_slice(from);
+    let n = from.len();
+    to[..n].copy_from_slice(from);
 }
 
 // The heading of a listing of that version, of f routines and n nodes.

@@ -34,6 +34,24 @@ impl Question {
     }
 }
 
+// The question that the rules have for a byte: they have one for every byte, of which 1 to 6 can be asked.
+impl From<u8> for Question {
+    ghost use Rattle.order.specs.Inner.Asking.{Means};
+
+    ghost from_gives = { Means };
+
+    fn from(byte: u8) -> Question {
+        match byte {
+            1 => Question::ScOnX86,
+            2 => Question::ScOnArmv7,
+            3 => Question::X86OnArmv7,
+            4 => Question::Armv8OnArmv7,
+            5 => Question::ScOnArmv8,
+            _ => Question::X86OnArmv8,
+        }
+    }
+}
+
 // What is asked by a number; one that asks nothing is refused.
 impl TryFrom<u64> for Question {
     type Error = Reason;
@@ -43,14 +61,9 @@ impl TryFrom<u64> for Question {
     ghost try_from_gives = { AskedBy };
 
     fn try_from(number: u64) -> Result<Question, Reason> {
-        match number {
-            1 => Ok(Question::ScOnX86),
-            2 => Ok(Question::ScOnArmv7),
-            3 => Ok(Question::X86OnArmv7),
-            4 => Ok(Question::Armv8OnArmv7),
-            5 => Ok(Question::ScOnArmv8),
-            6 => Ok(Question::X86OnArmv8),
-            _ => Err(Reason::Question),
+        if number < 1 || (Question::COUNT as u64) < number {
+            return Err(Reason::Question);
         }
+        Ok(Question::from(number as u8))
     }
 }

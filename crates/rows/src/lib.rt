@@ -1,7 +1,7 @@
 // Relations on at most 128 nodes as rows of bits, two 64-bit words a row; a set of nodes is one row.
 #![tactic(auto)]
 
-ghost use Rattle.std.specs.Prelude.{◌≡◌, ◌+◌, ◌*◌, ◌<◌, ◌≤◌, min, length};
+ghost use Rattle.std.specs.Prelude.{◌≡◌, ◌+◌, ◌*◌, ◌<◌, ◌≤◌, length, bit_and, bit_or};
 ghost use Rattle.rows.specs.Inner.Least.{Least};
 ghost use Rattle.rows.specs.Inner.Rows.{Tells, Vouches, IsSet, low_word, high_word, with_words, Has, Blank, Meet};
 ghost use Rattle.rows.specs.Inner.Touched.{
@@ -18,6 +18,9 @@ ghost use Rattle.rows.specs.Inner.Touched.{
 };
 
 use listing::Listing;
+use std::ops::{BitAnd, BitOr};
+
+// Rows stay words in slices in every signature: the crates above lend one row and a whole relation alike, and cite these contracts.
 
 // The words of a relation: two a node, of as many nodes as a listing has at the most.
 pub const WORDS: usize = 2 * Listing::NODES;
@@ -37,7 +40,7 @@ pub fn put(w: &mut [u64], a: usize, b: usize)
     ensures { Added w.old w.new a b }
 {
     let i = 2 * a + b / 64;
-    w[i] = w[i] | (1u64 << (b % 64));
+    w[i] |= 1u64 << (b % 64);
 }
 
 // Takes b out of row a.
@@ -46,34 +49,66 @@ pub fn take_out(w: &mut [u64], a: usize, b: usize)
     ensures { Removed w.old w.new a b }
 {
     let i = 2 * a + b / 64;
-    let x = w[i];
-    w[i] = x ^ (x & (1u64 << (b % 64)));
+    w[i] &= !(1u64 << (b % 64));
 }
 
-// The low word of row a.
-fn low_word(w: &[u64], a: usize) -> u64
-    requires { 2 * a + 1 < length w.now }
-    ensures { result ≡ low_word w.now a }
-{
-    w[2 * a]
+// The two words of a row: of the nodes below 64, and of those from 64 on.
+#[derive(Clone, Copy, PartialEq, Eq, Drop)]
+struct Row {
+    low: u64,
+    high: u64,
 }
 
-// The high word of row a.
-fn high_word(w: &[u64], a: usize) -> u64
-    requires { 2 * a + 1 < length w.now }
-    ensures { result ≡ high_word w.now a }
-{
-    w[2 * a + 1]
+impl Row {
+    // The row of no nodes.
+    const EMPTY: Row = Row { low: 0, high: 0 };
+
+    // Row a of w.
+    fn of(w: &[u64], a: usize) -> Row
+        requires { 2 * a + 1 < length w.now }
+        ensures low { result.low ≡ low_word w.now a }
+        ensures high { result.high ≡ high_word w.now a }
+    {
+        Row {
+            low: w[2 * a],
+            high: w[2 * a + 1],
+        }
+    }
+
+    // Makes this row a of w.
+    fn store(self, w: &mut [u64], a: usize)
+        requires { 2 * a + 1 < length w.old }
+        ensures { w.new ≡ with_words w.old a self.low self.high }
+    {
+        w[2 * a] = self.low;
+        w[2 * a + 1] = self.high;
+    }
 }
 
-// Stores both words of row a.
-fn set_row(w: &mut [u64], a: usize, lo: u64, hi: u64)
-    requires { 2 * a + 1 < length w.old }
-    ensures { w.new ≡ with_words w.old a lo hi }
-{
-    let i = 2 * a;
-    w[i] = lo;
-    w[i + 1] = hi;
+impl BitOr for Row {
+    type Output = Row;
+
+    ghost bitor_gives = { λ x y r. (r.low ≡ bit_or x.low y.low) × (r.high ≡ bit_or x.high y.high) };
+
+    fn bitor(self, other: Row) -> Row {
+        Row {
+            low: self.low | other.low,
+            high: self.high | other.high,
+        }
+    }
+}
+
+impl BitAnd for Row {
+    type Output = Row;
+
+    ghost bitand_gives = { λ x y r. (r.low ≡ bit_and x.low y.low) × (r.high ≡ bit_and x.high y.high) };
+
+    fn bitand(self, other: Row) -> Row {
+        Row {
+            low: self.low & other.low,
+            high: self.high & other.high,
+        }
+    }
 }
 
 // Puts row k into row a.
@@ -81,19 +116,15 @@ pub fn or_row(w: &mut [u64], a: usize, k: usize)
     requires { (2 * a + 1 < length w.old) × (2 * k + 1 < length w.old) }
     ensures { Poured w.old w.old w.new a k }
 {
-    let lo = low_word(w, a) | low_word(w, k);
-    let hi = high_word(w, a) | high_word(w, k);
-    set_row(w, a, lo, hi);
+    (Row::of(w, a) | Row::of(w, k)).store(w, a);
 }
 
-// Puts row k of u into row a of w.
+// Puts row k of u into row a of w. This isn't `or_row` too: rows that are lent for writing can't be lent as u beside.
 pub fn pour(u: &[u64], k: usize, w: &mut [u64], a: usize)
     requires { (2 * a + 1 < length w.old) × (2 * k + 1 < length u.now) }
     ensures { Poured u.now w.old w.new a k }
 {
-    let lo = low_word(w, a) | low_word(u, k);
-    let hi = high_word(w, a) | high_word(u, k);
-    set_row(w, a, lo, hi);
+    (Row::of(w, a) | Row::of(u, k)).store(w, a);
 }
 
 // Keeps of row a of w what row k of u has too.
@@ -101,9 +132,7 @@ pub fn sift(u: &[u64], k: usize, w: &mut [u64], a: usize)
     requires { (2 * a + 1 < length w.old) × (2 * k + 1 < length u.now) }
     ensures { Sifted u.now w.old w.new a k }
 {
-    let lo = low_word(w, a) & low_word(u, k);
-    let hi = high_word(w, a) & high_word(u, k);
-    set_row(w, a, lo, hi);
+    (Row::of(w, a) & Row::of(u, k)).store(w, a);
 }
 
 // Empties row a.
@@ -111,16 +140,14 @@ pub fn empty_row(w: &mut [u64], a: usize)
     requires { 2 * a + 1 < length w.old }
     ensures { Emptied w.old w.new a }
 {
-    set_row(w, a, 0, 0);
+    Row::EMPTY.store(w, a);
 }
 
 // Empties every row.
 pub fn clear(w: &mut [u64])
     ensures { Blank w.new }
 {
-    for i in 0..w.len() {
-        w[i] = 0;
-    }
+    w.fill(0);
 }
 
 // Whether row a of w and row z of s have a node in common.
@@ -128,13 +155,10 @@ pub fn meet(w: &[u64], a: usize, s: &[u64], z: usize) -> bool
     requires { (2 * a + 1 < length w.now) × (2 * z + 1 < length s.now) }
     ensures { Tells result (Meet w.now a s.now z) }
 {
-    if low_word(w, a) & low_word(s, z) != 0 {
-        return true;
-    }
-    high_word(w, a) & high_word(s, z) != 0
+    Row::of(w, a) & Row::of(s, z) != Row::EMPTY
 }
 
-// The least bit of x from b on, or 64 where there is none.
+// The least bit of x from b on, or 64 where there is none: that answer, and `next`'s n, is what `Least` says of every search.
 fn lowest(x: u64, b: usize) -> usize
     requires { b < 64 }
     ensures { Least (IsSet x) b 64 result }
@@ -143,17 +167,7 @@ fn lowest(x: u64, b: usize) -> usize
     if y == 0 {
         return 64;
     }
-    b + u64::trailing_zeros(y) as usize
-}
-
-// The lesser of two numbers.
-fn lesser(x: usize, n: usize) -> usize
-    ensures { result ≡ min x n }
-{
-    if x < n {
-        return x;
-    }
-    n
+    b + y.trailing_zeros() as usize
 }
 
 // The least node of row a from b on and below n, or n where it has none.
@@ -168,30 +182,22 @@ pub fn next(w: &[u64], a: usize, b: usize, n: usize) -> usize
         return b;
     }
     if 64 <= b {
-        return lesser(lowest(high_word(w, a), b - 64) + 64, n);
+        return (lowest(w[2 * a + 1], b - 64) + 64).min(n);
     }
-    let r = lowest(low_word(w, a), b);
+    let r = lowest(w[2 * a], b);
     if r < 64 {
-        return lesser(r, n);
+        return r.min(n);
     }
-    lesser(lowest(high_word(w, a), 0) + 64, n)
+    (lowest(w[2 * a + 1], 0) + 64).min(n)
 }
 
-// Keeps of w what u has too.
-fn keep_common(u: &[u64], w: &mut [u64])
-    requires { length u.now ≡ length w.old }
-    ensures { Common u.now w.old w.new }
-{
-    for i in 0..w.len() {
-        w[i] = w[i] & u[i];
-    }
-}
-
-// Keeps of the rows c what f has too.
+// Keeps of the rows c what f has too. No `zip` with f: of what is written through one a proof knows the length alone.
 pub fn narrow(f: &[u64; WORDS], c: &mut [u64; WORDS])
     ensures { Common f.now c.old c.new }
 {
-    keep_common(f, c);
+    for (i, x) in c.iter_mut().enumerate() {
+        *x &= f[i];
+    }
 }
 
 // Whether row a has all that row k has.
@@ -199,29 +205,8 @@ pub fn within(w: &[u64], k: usize, a: usize) -> bool
     requires { (2 * a + 1 < length w.now) × (2 * k + 1 < length w.now) }
     ensures { Vouches result (Covers w.now a k) }
 {
-    let lo = low_word(w, k);
-    let hi = high_word(w, k);
-    if lo & low_word(w, a) != lo {
-        return false;
-    }
-    if hi & high_word(w, a) != hi {
-        return false;
-    }
-    true
-}
-
-// Whether the rows x and y are the same.
-fn alike(r: &[u64], x: usize, y: usize) -> bool
-    requires { (2 * x + 1 < length r.now) × (2 * y + 1 < length r.now) }
-    ensures { Vouches result (Alike r.now x y) }
-{
-    if low_word(r, x) != low_word(r, y) {
-        return false;
-    }
-    if high_word(r, x) != high_word(r, y) {
-        return false;
-    }
-    true
+    let whole = Row::of(w, k);
+    whole & Row::of(w, a) == whole
 }
 
 // How far back a row that is the same is looked for.
@@ -232,13 +217,10 @@ pub fn earlier(r: &[u64], x: usize) -> usize
     requires { 2 * x + 1 < length r.now }
     ensures { Earlier r.now x result }
 {
-    let from = x - lesser(x, NEAR);
-    for y in from..x {
-        if alike(r, x, y) {
-            return y;
-        }
-    }
-    x
+    let row = Row::of(r, x);
+    (x.saturating_sub(NEAR)..x)
+        .find(|y| Row::of(r, *y) == row)
+        .unwrap_or(x)
 }
 
 // Row a of m, into the one row of s.
@@ -246,6 +228,5 @@ pub fn copy_row(m: &[u64; WORDS], a: usize, s: &mut [u64; 2])
     requires { a < 128 }
     ensures { Copied m.now a s.new }
 {
-    clear(s);
-    pour(m, a, s, 0);
+    Row::of(m, a).store(s, 0);
 }

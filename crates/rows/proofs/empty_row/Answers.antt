@@ -3,5 +3,4 @@ use Rattle.rows.proofs.OneRow.{emptied}
 use Rattle.rows.proofs.empty_row.Goals as goal
 
 pub returns : goal.returns
-returns c =
-    emptied c.requires c.set_row.ensures
+returns c = emptied c.requires c.store.ensures

@@ -5,21 +5,21 @@ use Rattle.rows.proofs.next.Goals as goal
 pub returns-then-b-ge64 : goal.returns-then-b-ge64
 returns-then-b-ge64 c =
     let a = c.args in
-    rw c.lesser.ensures
+    rw c.min.ensures
     (next_above a.w.now a.a a.b a.n c.if-n-b.false c.requires.2 _
-    c.if-b-ge64.true (rw c.high_word.ensures at c.lowest.ensures))
+    c.if-b-ge64.true c.lowest.ensures)
 
 pub returns-then-r-lt64 : goal.returns-then-r-lt64
 returns-then-r-lt64 c =
     let a = c.args in
-    rw c.lesser-then-r-lt64.ensures
+    rw c.min-then-r-lt64.ensures
     (next_low a.w.now a.a a.b a.n c.if-n-b.false c.requires.2 _
-    (rw c.low_word.ensures at c.lowest-r.ensures) c.if-r-lt64.true)
+    c.lowest-r.ensures c.if-r-lt64.true)
 
 pub returns : goal.returns
 returns c =
     let a = c.args in
-    rw c.lesser-2.ensures
+    rw c.min-2.ensures
     (next_over a.w.now a.a a.b a.n c.if-n-b.false c.requires.2 _ _
-    (rw c.low_word.ensures at c.lowest-r.ensures) c.if-r-lt64.false c.if-b-ge64.false
-    (rw c.high_word-2.ensures at c.lowest-2.ensures))
+    c.lowest-r.ensures c.if-r-lt64.false c.if-b-ge64.false
+    c.lowest-2.ensures)

@@ -6,7 +6,4 @@ use Rattle.rows.proofs.OneRow.{mixed}
 use Rattle.rows.proofs.or_row.Goals as goal
 
 pub returns : goal.returns
-returns c =
-    let long = c.requires.0 in
-    mixed bit_or max bit_or_lem long c.low_word.ensures c.low_word-2.ensures c.high_word.ensures c.high_word-2.ensures
-    c.set_row.ensures
+returns c = mixed bit_or max bit_or_lem c.requires.0 (cc) (cc) c.store.ensures

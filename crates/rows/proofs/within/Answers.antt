@@ -1,10 +1,9 @@
 -- `rows::within` meets its contract.
-use Rattle.rows.proofs.TwoRows.{covers}
+use Rattle.rows.proofs.TwoRows.{both_same, covers}
 use Rattle.rows.proofs.within.Goals as goal
 
 pub returns : goal.returns
 returns c =
-    let a = c.args in
-    covers a.w.now a.k a.a
-    (rw (c.low_word-lo.ensures, c.low_word.ensures) at c.if-lo-low_word.false)
-    (rw (c.high_word-hi.ensures, c.high_word.ensures) at c.if-hi-high_word.false)
+    both_same _ _ _ _ _ c.eq.ensures
+    (λ l h. covers _ _ _ (rw (← c.of-whole.ensures.low, ← c.of.ensures.low, ← c.bitand.ensures.0) l)
+    (rw (← c.of-whole.ensures.high, ← c.of.ensures.high, ← c.bitand.ensures.1) h))
