@@ -59,7 +59,8 @@ pub fn suspects(
     c: &mut Relation,
     i: &mut Relation,
 )
-    ensures { Ready (asked question) listing.now p.new m.new c.new }
+    ensures ready { Ready (asked question) listing.now p.new m.new c.new }
+    ensures whole { Whole listing.now }
 {
     pair_rows(listing, p);
     meetings::meet_rows(listing, m);

@@ -3,8 +3,8 @@ use Rattle.order.specs.Inner.Asking.{asked}
 use Rattle.suspects.proofs.Suspected.{suspects_hold}
 use Rattle.suspects.proofs.suspects.Goals as goal
 
-pub returns : goal.returns
-returns c =
+pub returns-clause-ready : goal.returns-clause-ready
+returns-clause-ready c =
     let first = c.pair_rows.ensures in
     record {
       pairs = first.pairs;
