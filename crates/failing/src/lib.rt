@@ -11,7 +11,7 @@ ghost use Rattle.failing.specs.Inner.Failing.{Laid};
 
 use listing::Listing;
 use order::Question;
-use rows::WORDS;
+use rows::Relation;
 pub use search::{Found, Search};
 
 // The rows of a listing under a question: its pairs, who meets whom, the suspects, and where an RMW is inside. They are lent one by one, since
@@ -19,15 +19,15 @@ pub use search::{Found, Search};
 pub fn prepare(
     question: Question,
     listing: &Listing,
-    p: &mut [u64; WORDS],
-    m: &mut [u64; WORDS],
-    c: &mut [u64; WORDS],
-    i: &mut [u64; WORDS],
+    p: &mut Relation,
+    m: &mut Relation,
+    c: &mut Relation,
+    i: &mut Relation,
 )
     ensures { Laid (asked question) listing.now p.new m.new c.new i.new }
 {
     suspects::suspects(question, listing, p, m, c, i);
-    let mut v = [0u64; WORDS];
+    let mut v = Relation::empty();
     suspects::exchanged_rows(listing, p, &mut v, i);
 }
 
@@ -35,10 +35,10 @@ pub fn prepare(
 pub fn robust(question: Question, listing: &Listing) -> bool
     ensures { Tells result (Robust (asked question) (nodes_of listing.now)) }
 {
-    let mut p = [0u64; WORDS];
-    let mut m = [0u64; WORDS];
-    let mut c = [0u64; WORDS];
-    let mut i = [0u64; WORDS];
+    let mut p = Relation::empty();
+    let mut m = Relation::empty();
+    let mut c = Relation::empty();
+    let mut i = Relation::empty();
     prepare(question, listing, &mut p, &mut m, &mut c, &mut i);
     Search::new(question, listing, &c, &i).next(0, 0).is_none()
 }

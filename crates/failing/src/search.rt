@@ -1,7 +1,7 @@
 // The search among a listing's suspects for pairs that fail.
 use listing::Listing;
 use order::{Needed, Question};
-use rows::WORDS;
+use rows::Relation;
 use std::marker::Model;
 
 // A pair that fails.
@@ -16,8 +16,8 @@ pub struct Found {
 pub struct Search<'a> {
     question: Question,
     listing: &'a Listing<'a>,
-    suspects: &'a [u64; WORDS],
-    inside: &'a [u64; WORDS],
+    suspects: &'a Relation,
+    inside: &'a Relation,
 }
 
 impl<'a> Model for Search<'a> {
@@ -45,8 +45,8 @@ impl<'a> Search<'a> {
     pub fn new(
         question: Question,
         listing: &'a Listing<'a>,
-        suspects: &'a [u64; WORDS],
-        inside: &'a [u64; WORDS],
+        suspects: &'a Relation,
+        inside: &'a Relation,
     ) -> Self
         requires { Prepared (asked question) listing.now suspects.now inside.now }
         ensures { result ≡ record { question = asked question; bytes = listing.now } }
@@ -73,7 +73,7 @@ impl<'a> Search<'a> {
         ensures { Tells result (Fails self.now.question (nodes_of self.now.bytes) a b) }
     {
         let suspects = self.suspects;
-        if !rows::has(suspects, a, b) {
+        if !suspects.has(a, b) {
             return false;
         }
         let listing = self.listing;
@@ -84,7 +84,7 @@ impl<'a> Search<'a> {
         match order::need(self.question, listing.kind(a), listing.kind(b)) {
             Needed::Never => false,
             Needed::Always => true,
-            Needed::IfRmwInside => rows::has(inside, a, b),
+            Needed::IfRmwInside => inside.has(a, b),
         }
     }
 
@@ -95,13 +95,10 @@ impl<'a> Search<'a> {
     {
         let n = self.nodes();
         let suspects = self.suspects;
-        let mut y = rows::next(suspects, a, b, n);
-        // a step a suspect, where a `for` would take one a node
-        while y < n {
+        for y in suspects.members(a, b, n) {
             if self.fails(a, y) {
                 return Some(y);
             }
-            y = rows::next(suspects, a, y + 1, n);
         }
         None
     }
