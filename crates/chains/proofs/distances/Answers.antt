@@ -1,5 +1,4 @@
 -- What the search leaves of `chains::distances`.
-use native.Mathlib.Omega.{arith}
 use Rattle.chains.proofs.Levels.{level_start, level_more, level_end}
 use Rattle.chains.proofs.distances.Goals as goal
 

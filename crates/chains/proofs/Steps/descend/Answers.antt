@@ -1,5 +1,5 @@
 -- What the search leaves of `chains::Steps::descend`.
-use Rattle.chains.proofs.Going.{mid_there, end_there, going_more, going_all}
+use Rattle.chains.proofs.Going.{mid_there, going_more, going_all}
 use Rattle.chains.proofs.Steps.descend.Goals as goal
 
 pub unwrap-c-requires : goal.unwrap-c-requires
