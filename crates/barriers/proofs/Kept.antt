@@ -1,6 +1,6 @@
 -- Rows thinned by who walks past a fence.
 use mathlib.Core.Path.{◌≡◌, refl, sym, ◌∙◌}
-use mathlib.Core.Logic.{◌⊎◌, inl, inr, ⊎_elim}
+use mathlib.Core.Logic.{inl, inr, ⊎_elim}
 use mathlib.Core.List.{List}
 use mathlib.Core.Bool.{false, not}
 use Prim.Native.Nat.{ℕ, ◌<◌}

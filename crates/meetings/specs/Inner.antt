@@ -1,2 +1,2 @@
-pub mod Picked
+pub mod Tested
 pub mod Meeting

@@ -6,54 +6,46 @@ mod overlaps;
 
 ghost use Rattle.std.specs.Prelude.{◌≤◌};
 ghost use Rattle.listing.specs.Bytes.{count_n, nodes_of};
-ghost use Rattle.listing.specs.Inner.Whole.{Whole};
 ghost use Rattle.rows.specs.Inner.Rows.{Low, Holds, Members};
 ghost use Rattle.meetings.specs.Inner.Meeting.{FromSome, LiveAmong, Meeting};
 
-pub use nodes::{Pick, gather};
-use rows::WORDS;
+use listing::Listing;
+pub use nodes::gather;
+use rows::{Relation, Set};
 
-// All that the rows of m have for some node of u, into the one row of s.
-fn pour_all(n: usize, u: &[u64; 2], m: &[u64; WORDS], s: &mut [u64; 2])
+// All that the rows of m have for some node of u.
+fn pour_all(n: usize, u: &Set, m: &Relation) -> Set
     requires { (n ≤ 128) × Low n m.now }
-    ensures { Members s.new n (FromSome u.now m.now n) }
+    ensures { Members result n (FromSome u.now m.now n) }
 {
-    rows::clear(s);
+    let mut s = Set::empty();
     for w in 0..n {
-        if rows::has(u, 0, w) {
-            rows::pour(m, w, s, 0);
+        if u.has(0, w) {
+            s.pour(0, m, w);
         }
     }
+    s
 }
 
-// Those of the accesses that overlap some writer, by the rows m, into the one row of s.
-fn live_accesses(
-    n: usize,
-    accesses: &[u64; 2],
-    writers: &[u64; 2],
-    m: &[u64; WORDS],
-    s: &mut [u64; 2],
-)
+// Those of the accesses that overlap some writer, by the rows m.
+fn live_accesses(n: usize, accesses: &Set, writers: &Set, m: &Relation) -> Set
     requires { (n ≤ 128) × Low n m.now }
-    ensures { Members s.new n (LiveAmong accesses.now writers.now m.now n) }
+    ensures { Members result n (LiveAmong accesses.now writers.now m.now n) }
 {
-    pour_all(n, writers, m, s);
-    rows::sift(accesses, 0, s, 0);
+    let mut s = pour_all(n, writers, m);
+    s.sift(0, accesses, 0);
+    s
 }
 
 // Who may meet whom: of those that overlap, the accesses that live.
-pub fn meet_rows(bytes: &[u8], m: &mut [u64; WORDS])
-    requires { Whole bytes.now }
-    ensures { Holds m.new (count_n bytes.now) (Meeting (nodes_of bytes.now)) }
+pub fn meet_rows(listing: &Listing, m: &mut Relation)
+    ensures { Holds m.new (count_n listing.now) (Meeting (nodes_of listing.now)) }
 {
-    let n = listing::node_count(bytes);
-    let mut accesses = [0u64; 2];
-    let mut writers = [0u64; 2];
-    let mut live = [0u64; 2];
-    gather(0, bytes, Pick::Access, &mut accesses);
-    gather(0, bytes, Pick::Writer, &mut writers);
-    overlaps::overlap_rows(bytes, m);
-    live_accesses(n, &accesses, &writers, m, &mut live);
+    let n = listing.nodes();
+    let accesses = gather(listing, order::is_access);
+    let writers = gather(listing, order::is_writer);
+    overlaps::overlap_rows(listing, m);
+    let live = live_accesses(n, &accesses, &writers, m);
     reach::keep_rows(n, &live, m);
     reach::keep_columns(n, &live, m);
 }

@@ -1,23 +1,23 @@
 // Whose locations overlap, row by row.
-ghost use Rattle.std.specs.Prelude.{◌<◌};
+ghost use Rattle.std.specs.Prelude.{◌<◌, ◌≤◌};
 ghost use Rattle.listing.specs.Bytes.{count_n, nodes_of};
-ghost use Rattle.listing.specs.Inner.Whole.{Whole};
 ghost use Rattle.rows.specs.Inner.Rows.{Holds};
 ghost use Rattle.rows.specs.Inner.Growing.{RowGrown, RowsDone};
-ghost use Rattle.meetings.specs.Inner.Meeting.{Overlapping, Twin};
+ghost use Rattle.meetings.specs.Inner.Meeting.{Overlapping, TwinIfAny};
 
-use rows::WORDS;
+use listing::Listing;
+use rows::Relation;
 
 // The nodes whose locations overlap a's, into row a of m.
-fn fill_row(bytes: &[u8], m: &mut [u64; WORDS], a: usize)
-    requires { Whole bytes.now × (a < count_n bytes.now) }
-    ensures { RowGrown (Overlapping (nodes_of bytes.now)) m.old m.new a (count_n bytes.now) }
+fn fill_row(listing: &Listing, m: &mut Relation, a: usize)
+    requires { a < count_n listing.now }
+    ensures { RowGrown (Overlapping (nodes_of listing.now)) m.old m.new a (count_n listing.now) }
 {
-    let n = listing::node_count(bytes);
-    let x = listing::location_at(bytes, a);
+    let n = listing.nodes();
+    let x = listing.location(a);
     for b in 0..n {
-        if order::overlap(x, listing::location_at(bytes, b)) {
-            rows::put(m, a, b);
+        if order::overlap(x, listing.location(b)) {
+            m.put(a, b);
         }
     }
 }
@@ -25,45 +25,33 @@ fn fill_row(bytes: &[u8], m: &mut [u64; WORDS], a: usize)
 // How far back a node at the same location is looked for.
 const NEAR: usize = 32;
 
-// An earlier node with a's location, or a where none is near.
-fn twin(bytes: &[u8], a: usize) -> usize
-    requires { Whole bytes.now × (a < count_n bytes.now) }
-    ensures { Twin (nodes_of bytes.now) a result }
+// An earlier node with a's location, where one is near.
+fn twin(listing: &Listing, a: usize) -> Option<usize>
+    requires { a < count_n listing.now }
+    ensures { TwinIfAny (nodes_of listing.now) a result }
 {
-    let x = listing::location_at(bytes, a);
-    let mut from = 0;
-    if NEAR < a {
-        from = a - NEAR;
-    }
-    for b in from..a {
-        if listing::location_at(bytes, b) == x {
-            return b;
-        }
-    }
-    a
+    let x = listing.location(a);
+    (a.saturating_sub(NEAR)..a).find(|b| listing.location(*b) == x)
 }
 
 // The nodes whose locations overlap a's, into row a of m: copied from a node at the same location where one is near.
-fn overlap_row(bytes: &[u8], m: &mut [u64; WORDS], a: usize)
-    requires { Whole bytes.now × (a < count_n bytes.now) × RowsDone (Overlapping (nodes_of bytes.now)) m.old a (count_n bytes.now) }
-    ensures { RowGrown (Overlapping (nodes_of bytes.now)) m.old m.new a (count_n bytes.now) }
+fn overlap_row(listing: &Listing, m: &mut Relation, a: usize)
+    requires { (a < count_n listing.now) × (count_n listing.now ≤ 128) × RowsDone (Overlapping (nodes_of listing.now)) m.old a (count_n listing.now) }
+    ensures { RowGrown (Overlapping (nodes_of listing.now)) m.old m.new a (count_n listing.now) }
 {
-    let b = twin(bytes, a);
-    if b < a {
-        rows::or_row(m, a, b);
-        return;
+    match twin(listing, a) {
+        Some(b) => m.or_row(a, b),
+        None => fill_row(listing, m, a),
     }
-    fill_row(bytes, m, a);
 }
 
 // Whose locations overlap.
-pub fn overlap_rows(bytes: &[u8], m: &mut [u64; WORDS])
-    requires { Whole bytes.now }
-    ensures { Holds m.new (count_n bytes.now) (Overlapping (nodes_of bytes.now)) }
+pub fn overlap_rows(listing: &Listing, m: &mut Relation)
+    ensures { Holds m.new (count_n listing.now) (Overlapping (nodes_of listing.now)) }
 {
-    rows::clear(m);
-    let n = listing::node_count(bytes);
+    m.clear();
+    let n = listing.nodes();
     for a in 0..n {
-        overlap_row(bytes, m, a);
+        overlap_row(listing, m, a);
     }
 }

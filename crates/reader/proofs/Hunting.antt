@@ -16,9 +16,8 @@ use Rattle.order.specs.Walks.{Succ}
 use Rattle.order.specs.Entered.{EntryOf, Entered}
 use Rattle.order.proofs.Entering.{entered_on}
 use Rattle.rows.specs.Inner.Least.{Least, LeastIfAny}
-use Rattle.rows.specs.Inner.Rows.{at, Has, Members, Blank}
-use Rattle.rows.specs.Inner.Touched.{Removed, Poured}
-use Rattle.rows.proofs.OneRow.{poured_gives, poured_brings}
+use Rattle.rows.specs.Inner.Rows.{at, Has, Members}
+use Rattle.rows.specs.Inner.Touched.{Removed, Copied}
 use Rattle.reader.specs.Inner.Search.{IsEntry, Hunt, Left, Stepped, Since}
 use Rattle.reader.proofs.Counting.{count, count_most, count_less}
 
@@ -119,13 +118,13 @@ lack_if_any P w n None few m h = least_lack P w n n few m h
 -- ── What is found stays right ───────────────────────────────────────────────
 module _ (L : Listing) (n : ℕ) (few : n ≤ 128) (same : n ≡ length L) where
   -- the entries are found, and all of them are to be followed
-  pub hunt_starts : (w t u : List ℕ) → Members w n (IsEntry L) → Blank t → Poured w t u 0 0 → Hunt L n w u None
-  hunt_starts w t u m blank poured = record {
+  pub hunt_starts : (w u : List ℕ) → Members w n (IsEntry L) → Copied w 0 u → Hunt L n w u None
+  hunt_starts w u m copied = record {
     sound = λ x h k. (let e = m.sound x h k in (e.0, (x, e.1, inl refl)));
     entries = λ r e p. m.whole e (let h = p.within in omega arith) (subst (λ (q : ℕ). EntryOf L q e) (sym p.own) p);
-    due = λ x h k. ⊎_elim (λ g. absurd (blank 0 x h g)) (λ g. g) (poured_gives w t u 0 0 poured x h k);
+    due = λ x h k. sym (copied.same x h) ∙ k;
     here = λ a e. let z : ⊥ = cc in absurd z;
-    closed = λ x y h k s. inr (inl (poured_brings w t u 0 0 poured x (omega arith) k));
+    closed = λ x y h k s. inr (inl (copied.same x (omega arith) ∙ k));
   }
 
   -- a is taken out of what is to be followed, to be followed now

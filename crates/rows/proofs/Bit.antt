@@ -1,149 +1,80 @@
--- The bits of a word: of `or`, `and` and `xor`, of one hot bit, and of a word that is not 0.
-use mathlib.Core.Path.{◌≡◌, refl, sym, ap, ◌∙◌}
-use Prim.Native.Nat.{ℕ, zero, suc, ◌+◌, ◌-◌, ◌*◌, ◌/◌, ◌%◌, ◌^◌, ◌≤◌, ◌<◌, min, max}
-use native.Mathlib.Nat.{one-mul, pow-suc, div-eq_of_lt, mul-mod_left, lt_of_lt_of_le, lt_of_le_of_lt}
+-- The bits of a word: of `or` and `and`, of one hot bit put in or taken out, and of a word that is not 0.
+use mathlib.Core.Path.{◌≡◌, sym, ap, ◌∙◌}
+use Prim.Native.Nat.{ℕ, ◌+◌, ◌-◌, ◌*◌, ◌/◌, ◌%◌, ◌^◌, ◌≤◌, ◌<◌, min, max}
 use native.Mathlib.Omega.{arith}
-use native.Mathlib.Numerals.{one-add}
 use native.Mathlib.Decide.{dec_lt}
-use lib.Pow.{pow_pos, pow-lt, pow_mono, pow-add, shl_exact, shl-shr, shr-shr, shr_le}
-use lib.Count.{count_trailing_zeros, under}
-use lib.Bits.{bit_or, bit_and, bit_xor, differ, or_step, or_shr, and_step, and_shr, xor_step, xor_shr, and_lt}
+use native.Mathlib.Nat.{lt_of_le_of_lt}
+use lib.Pow.{shr-shr, shr_le}
+use lib.Count.{count_trailing_zeros}
+use lib.Bits.{bit_or, bit_and}
+use Rattle.std.specs.Int.{w64}
+use Rattle.std.proofs.lemmas.Nat.{one_shl}
+use Rattle.std.proofs.lemmas.Nat.Bits.{bit_at-zero, bit_at_above, bit_at_and, bit_at_or, and_pow, bit_at-trailing_zeros}
+use Rattle.std.proofs.lemmas.Nat.Bits.{bit_at_set_same, bit_at_set_other, bit_at_clear_same, bit_at_clear_other}
 use Rattle.rows.specs.Inner.Rows.{bit, IsSet}
 use Rattle.rows.specs.Inner.Least.{Least}
 
-low_or : (x y : ℕ) → bit_or x y % 2 ≡ max (x % 2) (y % 2)
-low_or x y = omega (arith, or_step x y)
-
 pub bit_or_lem : (x y i : ℕ) → bit (bit_or x y) i ≡ max (bit x i) (bit y i)
 unfolding bit
-bit_or_lem x y i = rw or_shr (low_or (x / 2 ^ i) (y / 2 ^ i))
-
-low_and : (x y : ℕ) → bit_and x y % 2 ≡ min (x % 2) (y % 2)
-low_and x y = omega (arith, and_step x y)
+bit_or_lem = bit_at_or
 
 pub bit_and_lem : (x y i : ℕ) → bit (bit_and x y) i ≡ min (bit x i) (bit y i)
 unfolding bit
-bit_and_lem x y i = rw and_shr (low_and (x / 2 ^ i) (y / 2 ^ i))
+bit_and_lem = bit_at_and
 
 pub bit_le : (x i : ℕ) → bit x i ≤ 1
 unfolding bit
 bit_le x i = omega arith
 
--- what x has and y has not
-abbrev pub bit_less : ℕ → ℕ → ℕ
-bit_less x y = bit_xor x (bit_and x y)
-
-low_xor : (x y : ℕ) → bit_xor x y % 2 ≡ differ (x % 2) (y % 2)
-low_xor x y = let h = differ_le (x % 2) (y % 2) (omega arith) (omega arith) in omega (arith, xor_step x y)
-  where
-    differ_le : (p q : ℕ) → p ≤ 1 → q ≤ 1 → differ p q ≤ 1
-    differ_le zero q hp hq = hq
-    differ_le (suc p) zero hp hq = hp
-    differ_le (suc p) (suc q) hp hq = let e : p ≡ 0 = omega arith in rw e (omega arith)
-
-bit_xor_lem : (x y i : ℕ) → bit (bit_xor x y) i ≡ differ (bit x i) (bit y i)
+pub bit_zero : (i : ℕ) → bit 0 i ≡ 0
 unfolding bit
-bit_xor_lem x y i = rw xor_shr (low_xor (x / 2 ^ i) (y / 2 ^ i))
-
-pub bit_less_lem : (x y i : ℕ) → bit (bit_less x y) i ≡ bit x i - bit y i
-bit_less_lem x y i =
-    bit_xor_lem x (bit_and x y) i ∙ ap (differ (bit x i)) (bit_and_lem x y i) ∙ of (bit x i) (bit y i) (bit_le x i) (bit_le y i)
-  where
-    of : (p q : ℕ) → p ≤ 1 → q ≤ 1 → differ p (min p q) ≡ p - q
-    of zero q hp hq = omega arith
-    of (suc p) q hp hq =
-        let e : p ≡ 0 = omega arith in
-        rw e (one q hq)
-      where
-        one : (q : ℕ) → q ≤ 1 → differ 1 (min 1 q) ≡ 1 - q
-        one zero h = refl
-        one (suc r) h = let e : r ≡ 0 = omega arith in rw e refl
+bit_zero = bit_at-zero
 
 -- ---- one bit
 
--- what `1 << n` gives
+-- what `1 << k` gives
 abbrev pub hot : ℕ → ℕ
-hot n = 1 * 2 ^ n % 18446744073709551616
+hot k = 1 * 2 ^ k % 18446744073709551616
 
-hot_is : (n : ℕ) → n < 64 → hot n ≡ 1 * 2 ^ n
-hot_is n h = shl_exact 1 n 64 (omega arith) (omega arith)
+-- the word x with bit k put in, and taken out
+abbrev pub put_bit : ℕ → ℕ → ℕ
+put_bit x k = bit_or x (hot k)
 
-pub bit_hot_same : (n : ℕ) → n < 64 → bit (hot n) n ≡ 1
+abbrev pub drop_bit : ℕ → ℕ → ℕ
+drop_bit x k = bit_and x (18446744073709551615 - hot k)
+
+module _ (x k : ℕ) (hk : k < 64) where
+  pub put_same : bit (put_bit x k) k ≡ 1
+  unfolding bit
+  put_same = bit_at_set_same w64 x k hk
+
+  pub put_other : (i : ℕ) → i < 64 → (i ≡ k → ⊥) → bit (put_bit x k) i ≡ bit x i
+  unfolding bit
+  put_other i h = bit_at_set_other w64 x k hk i
+
+  pub drop_same : bit (drop_bit x k) k ≡ 0
+  unfolding bit
+  drop_same = bit_at_clear_same w64 x k hk
+
+  pub drop_other : (i : ℕ) → i < 64 → (i ≡ k → ⊥) → bit (drop_bit x k) i ≡ bit x i
+  unfolding bit
+  drop_other = bit_at_clear_other w64 x k hk
+
+-- the word under a mask of bit k is 0 exactly if the bit is
+pub masked_bit : (x k : ℕ) → k < 64 → bit_and x (hot k) ≡ bit x k * 2 ^ k
 unfolding bit
-bit_hot_same n h = ap (λ (z : ℕ). z / 2 ^ n % 2) (hot_is n h) ∙ ap (λ (z : ℕ). z % 2) (shl-shr 1 n)
-
-bit_below : (n i : ℕ) → i < n → 1 * 2 ^ n / 2 ^ i % 2 ≡ 0
-bit_below n i h =
-    let e : n ≡ suc (n - suc i) + i = omega arith in
-    let p : 1 * 2 ^ n ≡ 2 ^ suc (n - suc i) * 2 ^ i = one-mul (2 ^ n) ∙ ap (λ (z : ℕ). 2 ^ z) e ∙ pow-add 2 (suc (n - suc i)) i in
-    let q : 1 * 2 ^ n / 2 ^ i ≡ 2 ^ suc (n - suc i) = ap (λ (z : ℕ). z / 2 ^ i) p ∙ shl-shr (2 ^ suc (n - suc i)) i in
-    ap (λ (z : ℕ). z % 2) q ∙ ap (λ (z : ℕ). z % 2) (pow-suc 2 (n - suc i)) ∙ mul-mod_left (2 ^ (n - suc i)) 2
-
-bit_above : (n i : ℕ) → n < i → 1 * 2 ^ n / 2 ^ i % 2 ≡ 0
-bit_above n i h =
-    let l : 1 * 2 ^ n < 2 ^ i = rw (one-mul (2 ^ n)) (pow-lt h) in
-    ap (λ (z : ℕ). z % 2) (div-eq_of_lt l)
-
-pub bit_hot_other : (n i : ℕ) → n < 64 → (i ≡ n → ⊥) → bit (hot n) i ≡ 0
-unfolding bit
-bit_hot_other n i h ne = ap (λ (z : ℕ). z / 2 ^ i % 2) (hot_is n h) ∙ by (dec_lt i n)
-  where
-    by : Dec (i < n) → 1 * 2 ^ n / 2 ^ i % 2 ≡ 0
-    by (yes l) = bit_below n i l
-    by (no l) = bit_above n i (omega arith)
+masked_bit x k h = ap (bit_and x) (one_shl k 64 h) ∙ and_pow x k
 
 -- ---- a word that is not 0
 
-pub bit_zero : (i : ℕ) → bit 0 i ≡ 0
+some_bit : (z : ℕ) → z < 2 ^ 64 → (z ≡ 0 → ⊥) → (i : ℕ) × (i < 64) × (bit z i ≡ 1)
 unfolding bit
-bit_zero i = ap (λ (u : ℕ). u % 2) (div-eq_of_lt (pow_pos i))
+some_bit z h ne = let f = bit_at-trailing_zeros w64 z (omega arith) h in (count_trailing_zeros 64 z, f.0, f.1)
 
-bit_half : (n i : ℕ) → bit n (suc i) ≡ bit (n / 2) i
-unfolding bit
-bit_half n i = ap (λ (u : ℕ). u % 2) (ap (λ (u : ℕ). n / 2 ^ u) (sym (one-add i)) ∙ sym (shr-shr n 1 i))
-
-bit_shifted : (x b i : ℕ) → bit (x / 2 ^ b) i ≡ bit x (b + i)
-unfolding bit
-bit_shifted x b i = ap (λ (u : ℕ). u % 2) (shr-shr x b i)
-
-bit_high : (k x i : ℕ) → x < 2 ^ k → k ≤ i → bit x i ≡ 0
-unfolding bit
-bit_high k x i h l = ap (λ (z : ℕ). z % 2) (div-eq_of_lt (lt_of_lt_of_le h (pow_mono l)))
-
--- its bit above the trailing zeros is set
-zeros_set : (k n : ℕ) → n < 2 ^ k → (n ≡ 0 → ⊥) → bit n (count_trailing_zeros k n) ≡ 1
-unfolding count_trailing_zeros bit
-zeros_set zero n h ne = absurd (ne (omega arith))
-zeros_set (suc k) n h ne = by (n % 2) refl (λ m. zeros_set k (n / 2) (omega (arith, pow-suc 2 k)) m)
-  where
-    by : (d : ℕ) → n % 2 ≡ d → ((n / 2 ≡ 0 → ⊥) → bit (n / 2) (count_trailing_zeros k (n / 2)) ≡ 1) → bit n (under d (count_trailing_zeros k (n / 2))) ≡ 1
-    by zero e rec = bit_half n (count_trailing_zeros k (n / 2)) ∙ rec (λ q. ne (omega arith))
-    by (suc d) e rec = omega arith
-
--- and those below are not
-zeros_below : (k n z : ℕ) → z < count_trailing_zeros k n → bit n z ≡ 1 → ⊥
-unfolding count_trailing_zeros bit
-zeros_below zero n z h b = omega arith
-zeros_below (suc k) n z h b = by (n % 2) refl z h b (λ y. zeros_below k (n / 2) y)
-  where
-    by : (d : ℕ) → n % 2 ≡ d → (z : ℕ) → z < under d (count_trailing_zeros k (n / 2)) → bit n z ≡ 1
-        → ((y : ℕ) → y < count_trailing_zeros k (n / 2) → bit (n / 2) y ≡ 1 → ⊥) → ⊥
-    by zero e zero h b rec = omega arith
-    by zero e (suc z) h b rec = rec z (omega arith) (sym (bit_half n z) ∙ b)
-    by (suc d) e z h b rec = omega arith
-
-some_bit : (k z : ℕ) → z < 2 ^ k → (z ≡ 0 → ⊥) → (i : ℕ) × (i < k) × (bit z i ≡ 1)
-some_bit k z h ne = (count_trailing_zeros k z, below (dec_lt (count_trailing_zeros k z) k), zeros_set k z h ne)
-  where
-    below : Dec (count_trailing_zeros k z < k) → count_trailing_zeros k z < k
-    below (yes l) = l
-    below (no l) = absurd (omega (arith, bit_high k z (count_trailing_zeros k z) h (omega arith), zeros_set k z h ne))
-
--- ---- two words with a bit in common, and with none
-
-pub common_bit : (x y : ℕ) → x < 2 ^ 64 → y < 2 ^ 64 → (bit_and x y ≡ 0 → ⊥) → (i : ℕ) × (i < 64) × (bit x i ≡ 1) × (bit y i ≡ 1)
-common_bit x y hx hy ne =
-    let p = some_bit 64 (bit_and x y) (and_lt 64 x y hx hy) ne in
+-- two words with a bit in common, and with none
+pub common_bit : (x y : ℕ) → bit_and x y < 2 ^ 64 → (bit_and x y ≡ 0 → ⊥) → (i : ℕ) × (i < 64) × (bit x i ≡ 1) × (bit y i ≡ 1)
+common_bit x y h ne =
+    let p = some_bit (bit_and x y) h ne in
     let b = p.2 in
     let c = bit_and_lem x y p.0 in
     let lx = bit_le x p.0 in
@@ -160,9 +91,10 @@ no_common x y i e a b =
 
 module _ (x b : ℕ) (hx : x < 2 ^ 64) (hb : b < 64) where
   from_shifted : (z : ℕ) → b ≤ z → bit x z ≡ bit (x / 2 ^ b) (z - b)
+  unfolding bit
   from_shifted z h =
       let e : b + (z - b) ≡ z = omega arith in
-      ap (bit x) (sym e) ∙ sym (bit_shifted x b (z - b))
+      ap (bit x) (sym e) ∙ ap (λ (u : ℕ). u % 2) (sym (shr-shr x b (z - b)))
 
   pub lowest_none : x / 2 ^ b ≡ 0 → Least (IsSet x) b 64 64
   lowest_none e =
@@ -178,20 +110,23 @@ module _ (x b : ℕ) (hx : x < 2 ^ 64) (hb : b < 64) where
 
   -- THE LOWEST BIT STANDS ABOVE THE TRAILING ZEROS
   pub lowest_some : (x / 2 ^ b ≡ 0 → ⊥) → Least (IsSet x) b 64 (b + count_trailing_zeros 64 (x / 2 ^ b))
+  unfolding bit
   lowest_some ne =
+      let f = bit_at-trailing_zeros w64 (x / 2 ^ b) (omega arith) (lt_of_le_of_lt (shr_le x b) hx) in
+      let e : b + t - b ≡ t = omega arith in
       record {
-        low = low (dec_lt r 64);
+        low = low (dec_lt r 64) (rw e at (from_shifted r (omega arith)) ∙ f.1);
         from = omega arith;
-        here = λ h. set;
-        none = λ z l h o. zeros_below 64 (x / 2 ^ b) (z - b) (omega arith) (sym (from_shifted z l) ∙ o);
+        here = λ h. rw e at (from_shifted r (omega arith)) ∙ f.1;
+        none = λ z l h o. omega (arith, f.2 (z - b) (omega arith), sym (from_shifted z l) ∙ o);
       }
     where
+      t : ℕ
+      t = count_trailing_zeros 64 (x / 2 ^ b)
+
       r : ℕ
-      r = b + count_trailing_zeros 64 (x / 2 ^ b)
+      r = b + t
 
-      set : bit x r ≡ 1
-      set = sym (bit_shifted x b (count_trailing_zeros 64 (x / 2 ^ b))) ∙ zeros_set 64 (x / 2 ^ b) (lt_of_le_of_lt (shr_le x b) hx) ne
-
-      low : Dec (r < 64) → r ≤ 64
-      low (yes h) = omega arith
-      low (no h) = let e = bit_high 64 x r hx (omega arith) in let s = set in absurd (omega arith)
+      low : Dec (r < 64) → bit x r ≡ 1 → r ≤ 64
+      low (yes h) s = omega arith
+      low (no h) s = absurd (omega (arith, bit_at_above x 64 r hx (omega arith), s))

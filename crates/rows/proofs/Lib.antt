@@ -9,3 +9,4 @@ pub mod AllWords
 pub mod Holds
 pub mod Growing
 pub mod Searching
+pub mod Giving

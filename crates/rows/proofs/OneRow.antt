@@ -1,33 +1,33 @@
 -- One row poured into, sifted, emptied or copied.
-use mathlib.Core.Path.{◌≡◌, ◌∙◌}
+use mathlib.Core.Path.{◌≡◌, sym, ap, ◌∙◌}
 use mathlib.Core.Logic.{◌⊎◌, inl, inr}
 use mathlib.Core.List.{List}
-use Prim.Native.Nat.{ℕ, ◌+◌, ◌-◌, ◌*◌, ◌<◌}
+use Prim.Native.Nat.{ℕ, ◌+◌, ◌-◌, ◌*◌, ◌≤◌, ◌<◌}
 use native.Mathlib.Omega.{arith}
 use native.Mathlib.Decide.{dec_lt, ℕ_discrete}
 use lib.ListN.{length}
-use Rattle.rows.specs.Inner.Rows.{bit, low_word, high_word, with_words, at, Has, Blank}
+use Rattle.rows.specs.Inner.Rows.{bit, low_word, high_word, with_words, at, Has}
 use Rattle.rows.specs.Inner.Touched.{Mixed, Poured, Sifted, Emptied, Copied}
 use Rattle.rows.proofs.Bit.{bit_zero}
 use Rattle.rows.proofs.Places.{at_le, row_or_rest, at_low, at_high, stored_low, stored_high, stored_rest}
 
--- row a with its words x and p combined with the words y and q of row k of u: words combined by op are bits combined by g
+-- row a with its words combined with those of row k of u: words combined by op are bits combined by g
 pub mixed : (op g : ℕ → ℕ → ℕ) → ((x y i : ℕ) → bit (op x y) i ≡ g (bit x i) (bit y i))
-    → {u w v : List ℕ} {a k x y p q : ℕ} → 2 * a + 1 < length w
-    → x ≡ low_word w a → y ≡ low_word u k → p ≡ high_word w a → q ≡ high_word u k
-    → v ≡ with_words w a (op x y) (op p q) → Mixed g u w v a k
-mixed op g law {u} {w} {v} {a} {k} {x} {y} {p} {q} long ex ey ep eq e =
-    rw e (record { row = λ z hz. row z hz (dec_lt z 64); rest = stored_rest w a (op x y) (op p q) long })
+    → {u w v : List ℕ} {a k lo hi : ℕ} → 2 * a + 1 < length w
+    → lo ≡ op (low_word w a) (low_word u k) → hi ≡ op (high_word w a) (high_word u k)
+    → v ≡ with_words w a lo hi → Mixed g u w v a k
+mixed op g law {u} {w} {v} {a} {k} {lo} {hi} long el eh e =
+    rw e (record { row = λ z hz. row z hz (dec_lt z 64); rest = stored_rest w a lo hi long })
   where
-    row : (z : ℕ) → z < 128 → Dec (z < 64) → at (with_words w a (op x y) (op p q)) a z ≡ g (at w a z) (at u k z)
+    row : (z : ℕ) → z < 128 → Dec (z < 64) → at (with_words w a lo hi) a z ≡ g (at w a z) (at u k z)
     row z hz (yes h) =
         let ew = at_low w a z h in
         let eu = at_low u k z h in
-        stored_low w a (op x y) (op p q) long z h ∙ law x y z ∙ cc
+        stored_low w a lo hi long z h ∙ cc (ap (λ (x : ℕ). bit x z) el, law (low_word w a) (low_word u k) z)
     row z hz (no h) =
         let ew = at_high w a z (omega arith) hz in
         let eu = at_high u k z (omega arith) hz in
-        stored_high w a (op x y) (op p q) long z (omega arith) hz ∙ law p q (z - 64) ∙ cc
+        stored_high w a lo hi long z (omega arith) hz ∙ cc (ap (λ (x : ℕ). bit x (z - 64)) eh, law (high_word w a) (high_word u k) (z - 64))
 
 -- a row after 0 is stored in both its words
 pub emptied : {w v : List ℕ} {a : ℕ} → 2 * a + 1 < length w → v ≡ with_words w a 0 0 → Emptied w v a
@@ -59,10 +59,13 @@ module _ (u w v : List ℕ) (a k : ℕ) where
   pub sifted_keeps : Sifted u w v a k → (y : ℕ) → y < 128 → Has w a y → Has u k y → Has v a y
   sifted_keeps p y l h g = omega (arith, p.row y l)
 
--- a row poured into an empty one is copied
-pub copied : (m s v : List ℕ) (a : ℕ) → Blank s → Poured m s v 0 a → Copied m a v
-copied m s v a z p = record { same = λ y l. of y l (ℕ_discrete (at s 0 y) 1) }
+-- a row after the words of row a of m are stored in it
+pub copied : (m s : List ℕ) {v : List ℕ} (a : ℕ) {lo hi : ℕ} → 1 < length s
+    → lo ≡ low_word m a → hi ≡ high_word m a → v ≡ with_words s 0 lo hi → Copied m a v
+copied m s {v} a {lo} {hi} long el eh e = rw e (record { same = λ y l. of y l (dec_lt y 64) })
   where
-    of : (y : ℕ) → y < 128 → Dec (at s 0 y ≡ 1) → at v 0 y ≡ at m a y
-    of y l (yes e) = absurd (z 0 y l e)
-    of y l (no e) = omega (arith, p.row y l, at_le s 0 y)
+    of : (y : ℕ) → y < 128 → Dec (y < 64) → at (with_words s 0 lo hi) 0 y ≡ at m a y
+    of y l (yes h) = stored_low s 0 lo hi long y h ∙ ap (λ (x : ℕ). bit x y) el ∙ sym (at_low m a y h)
+    of y l (no h) =
+        let k : 64 ≤ y = omega arith in
+        stored_high s 0 lo hi long y k l ∙ ap (λ (x : ℕ). bit x (y - 64)) eh ∙ sym (at_high m a y k l)

@@ -1,23 +1,21 @@
 -- What an answer of yes or no says: turned round, of an equal statement, of its own test, and with a second answer.
 use mathlib.Core.Path.{◌≡◌, sym, subst}
 use mathlib.Core.Bool.{Bool, true, false, not}
-use Prim.Native.Nat.{ℕ}
-use native.Mathlib.Omega.{arith}
 use lib.Dec.{T}
 use Rattle.rows.specs.Inner.Rows.{Tells, Vouches}
 
 -- what the test of a negation says
 pub tells_no : (A : Type 0) (b : Bool) → not b ≡ true → Tells b A → A → ⊥
-tells_no A true e t = let z : ◌≡◌ {A = ℕ} 0 1 = cc in omega arith
+tells_no A true e t = cc
 tells_no A false e t = t
 
 pub tells_yes : (A : Type 0) (b : Bool) → not b ≡ false → Tells b A → A
 tells_yes A true e t = t
-tells_yes A false e t = let z : ◌≡◌ {A = ℕ} 0 1 = cc in absurd (omega arith)
+tells_yes A false e t = cc
 
 pub vouched : (A : Type 0) (r : Bool) → not r ≡ false → Vouches r A → A
 vouched A true e v = v
-vouched A false e v = let z : ◌≡◌ {A = ℕ} 0 1 = cc in absurd (omega arith)
+vouched A false e v = cc
 
 -- a second answer, where the first is yes
 pub tells_and : (A B : Type 0) (b : Bool) → A → Tells b B → Tells b (A × B)

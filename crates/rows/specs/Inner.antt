@@ -3,3 +3,4 @@ pub mod Rows
 pub mod Touched
 pub mod Thinned
 pub mod Growing
+pub mod Nodes

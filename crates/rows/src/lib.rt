@@ -1,8 +1,10 @@
 // Relations on at most 128 nodes as rows of bits, two 64-bit words a row; a set of nodes is one row.
 #![tactic(auto)]
 
-ghost use Rattle.std.specs.Prelude.{◌≡◌, ◌+◌, ◌*◌, ◌<◌, ◌≤◌, min, length};
-ghost use Rattle.rows.specs.Inner.Least.{Least};
+ghost use Rattle.std.specs.Prelude.{◌≡◌, ◌+◌, ◌-◌, ◌*◌, ◌<◌, ◌≤◌, length, bit_and, bit_or};
+ghost use Rattle.std.specs.Iterator.{at_most};
+ghost use Rattle.rows.specs.Inner.Least.{Least, LeastIfAny};
+ghost use Rattle.rows.specs.Inner.Nodes.{Coming, coming, Gives};
 ghost use Rattle.rows.specs.Inner.Rows.{Tells, Vouches, IsSet, low_word, high_word, with_words, Has, Blank, Meet};
 ghost use Rattle.rows.specs.Inner.Touched.{
   Added,
@@ -18,123 +20,71 @@ ghost use Rattle.rows.specs.Inner.Touched.{
 };
 
 use listing::Listing;
+use std::marker::Model;
+use std::ops::{BitAnd, BitOr};
 
 // The words of a relation: two a node, of as many nodes as a listing has at the most.
 pub const WORDS: usize = 2 * Listing::NODES;
 
-// Whether b stands in row a.
-pub fn has(w: &[u64], a: usize, b: usize) -> bool
-    requires { (2 * a + 1 < length w.now) × (b < 128) }
-    ensures { Tells result (Has w.now a b) }
-{
-    let i = 2 * a + b / 64;
-    w[i] & (1u64 << (b % 64)) != 0
+// Rows of bits in N words. A contract sees the words alone.
+#[derive(Drop)]
+pub struct Rows<const N: usize> {
+    words: [u64; N],
 }
 
-// Puts b into row a.
-pub fn put(w: &mut [u64], a: usize, b: usize)
-    requires { (2 * a + 1 < length w.old) × (b < 128) }
-    ensures { Added w.old w.new a b }
-{
-    let i = 2 * a + b / 64;
-    w[i] = w[i] | (1u64 << (b % 64));
+impl<const N: usize> Model for Rows<N> {
+    ghost use Rattle.std.specs.Prelude.{List, ℕ};
+
+    ghost Value = { List ℕ };
+
+    ghost view = { λ r. r.words };
 }
 
-// Takes b out of row a.
-pub fn take_out(w: &mut [u64], a: usize, b: usize)
-    requires { (2 * a + 1 < length w.old) × (b < 128) }
-    ensures { Removed w.old w.new a b }
-{
-    let i = 2 * a + b / 64;
-    let x = w[i];
-    w[i] = x ^ (x & (1u64 << (b % 64)));
+// A set of nodes: one row.
+pub type Set = Rows<2>;
+
+// A relation: a row a node.
+pub type Relation = Rows<WORDS>;
+
+// The two words of a row: of the nodes below 64, and of those from 64 on.
+#[derive(Clone, Copy, PartialEq, Eq, Drop)]
+struct Row {
+    low: u64,
+    high: u64,
 }
 
-// The low word of row a.
-fn low_word(w: &[u64], a: usize) -> u64
-    requires { 2 * a + 1 < length w.now }
-    ensures { result ≡ low_word w.now a }
-{
-    w[2 * a]
+impl Row {
+    // The row of no nodes.
+    const EMPTY: Row = Row { low: 0, high: 0 };
 }
 
-// The high word of row a.
-fn high_word(w: &[u64], a: usize) -> u64
-    requires { 2 * a + 1 < length w.now }
-    ensures { result ≡ high_word w.now a }
-{
-    w[2 * a + 1]
-}
+impl BitOr for Row {
+    type Output = Row;
 
-// Stores both words of row a.
-fn set_row(w: &mut [u64], a: usize, lo: u64, hi: u64)
-    requires { 2 * a + 1 < length w.old }
-    ensures { w.new ≡ with_words w.old a lo hi }
-{
-    let i = 2 * a;
-    w[i] = lo;
-    w[i + 1] = hi;
-}
+    ghost bitor_gives = { λ x y r. (r.low ≡ bit_or x.low y.low) × (r.high ≡ bit_or x.high y.high) };
 
-// Puts row k into row a.
-pub fn or_row(w: &mut [u64], a: usize, k: usize)
-    requires { (2 * a + 1 < length w.old) × (2 * k + 1 < length w.old) }
-    ensures { Poured w.old w.old w.new a k }
-{
-    let lo = low_word(w, a) | low_word(w, k);
-    let hi = high_word(w, a) | high_word(w, k);
-    set_row(w, a, lo, hi);
-}
-
-// Puts row k of u into row a of w.
-pub fn pour(u: &[u64], k: usize, w: &mut [u64], a: usize)
-    requires { (2 * a + 1 < length w.old) × (2 * k + 1 < length u.now) }
-    ensures { Poured u.now w.old w.new a k }
-{
-    let lo = low_word(w, a) | low_word(u, k);
-    let hi = high_word(w, a) | high_word(u, k);
-    set_row(w, a, lo, hi);
-}
-
-// Keeps of row a of w what row k of u has too.
-pub fn sift(u: &[u64], k: usize, w: &mut [u64], a: usize)
-    requires { (2 * a + 1 < length w.old) × (2 * k + 1 < length u.now) }
-    ensures { Sifted u.now w.old w.new a k }
-{
-    let lo = low_word(w, a) & low_word(u, k);
-    let hi = high_word(w, a) & high_word(u, k);
-    set_row(w, a, lo, hi);
-}
-
-// Empties row a.
-pub fn empty_row(w: &mut [u64], a: usize)
-    requires { 2 * a + 1 < length w.old }
-    ensures { Emptied w.old w.new a }
-{
-    set_row(w, a, 0, 0);
-}
-
-// Empties every row.
-pub fn clear(w: &mut [u64])
-    ensures { Blank w.new }
-{
-    for i in 0..w.len() {
-        w[i] = 0;
+    fn bitor(self, other: Row) -> Row {
+        Row {
+            low: self.low | other.low,
+            high: self.high | other.high,
+        }
     }
 }
 
-// Whether row a of w and row z of s have a node in common.
-pub fn meet(w: &[u64], a: usize, s: &[u64], z: usize) -> bool
-    requires { (2 * a + 1 < length w.now) × (2 * z + 1 < length s.now) }
-    ensures { Tells result (Meet w.now a s.now z) }
-{
-    if low_word(w, a) & low_word(s, z) != 0 {
-        return true;
+impl BitAnd for Row {
+    type Output = Row;
+
+    ghost bitand_gives = { λ x y r. (r.low ≡ bit_and x.low y.low) × (r.high ≡ bit_and x.high y.high) };
+
+    fn bitand(self, other: Row) -> Row {
+        Row {
+            low: self.low & other.low,
+            high: self.high & other.high,
+        }
     }
-    high_word(w, a) & high_word(s, z) != 0
 }
 
-// The least bit of x from b on, or 64 where there is none.
+// The least bit of x from b on, or 64 where there is none. No `Option` here and in `search`: what is added to it and `min` take a number.
 fn lowest(x: u64, b: usize) -> usize
     requires { b < 64 }
     ensures { Least (IsSet x) b 64 result }
@@ -143,109 +93,255 @@ fn lowest(x: u64, b: usize) -> usize
     if y == 0 {
         return 64;
     }
-    b + u64::trailing_zeros(y) as usize
+    b + y.trailing_zeros() as usize
 }
 
-// The lesser of two numbers.
-fn lesser(x: usize, n: usize) -> usize
-    ensures { result ≡ min x n }
+// Whether b stands in row a of the words w. This and the next two take words that are lent, so that `Nodes` needs no N.
+fn stands(w: &[u64], a: usize, b: usize) -> bool
+    requires { (2 * a + 1 < length w.now) × (b < 128) }
+    ensures { Tells result (Has w.now a b) }
 {
-    if x < n {
-        return x;
-    }
-    n
+    let i = 2 * a + b / 64;
+    w[i] & (1u64 << (b % 64)) != 0
 }
 
-// The least node of row a from b on and below n, or n where it has none.
-pub fn next(w: &[u64], a: usize, b: usize, n: usize) -> usize
+// The least node of row a of the words w from b on and below n, or n where it has none.
+fn search(w: &[u64], a: usize, b: usize, n: usize) -> usize
     requires { (2 * a + 1 < length w.now) × (b ≤ n) × (n ≤ 128) }
     ensures { Least (Has w.now a) b n result }
 {
     if n <= b {
         return n;
     }
-    if has(w, a, b) {
+    if stands(w, a, b) {
         return b;
     }
     if 64 <= b {
-        return lesser(lowest(high_word(w, a), b - 64) + 64, n);
+        return (lowest(w[2 * a + 1], b - 64) + 64).min(n);
     }
-    let r = lowest(low_word(w, a), b);
+    let r = lowest(w[2 * a], b);
     if r < 64 {
-        return lesser(r, n);
+        return r.min(n);
     }
-    lesser(lowest(high_word(w, a), 0) + 64, n)
+    (lowest(w[2 * a + 1], 0) + 64).min(n)
 }
 
-// Keeps of w what u has too.
-fn keep_common(u: &[u64], w: &mut [u64])
-    requires { length u.now ≡ length w.old }
-    ensures { Common u.now w.old w.new }
+// The same, if there is one.
+fn least(w: &[u64], a: usize, b: usize, n: usize) -> Option<usize>
+    requires { (2 * a + 1 < length w.now) × (b ≤ n) × (n ≤ 128) }
+    ensures { LeastIfAny (Has w.now a) b n result }
 {
-    for i in 0..w.len() {
-        w[i] = w[i] & u[i];
-    }
-}
-
-// Keeps of the rows c what f has too.
-pub fn narrow(f: &[u64; WORDS], c: &mut [u64; WORDS])
-    ensures { Common f.now c.old c.new }
-{
-    keep_common(f, c);
-}
-
-// Whether row a has all that row k has.
-pub fn within(w: &[u64], k: usize, a: usize) -> bool
-    requires { (2 * a + 1 < length w.now) × (2 * k + 1 < length w.now) }
-    ensures { Vouches result (Covers w.now a k) }
-{
-    let lo = low_word(w, k);
-    let hi = high_word(w, k);
-    if lo & low_word(w, a) != lo {
-        return false;
-    }
-    if hi & high_word(w, a) != hi {
-        return false;
-    }
-    true
-}
-
-// Whether the rows x and y are the same.
-fn alike(r: &[u64], x: usize, y: usize) -> bool
-    requires { (2 * x + 1 < length r.now) × (2 * y + 1 < length r.now) }
-    ensures { Vouches result (Alike r.now x y) }
-{
-    if low_word(r, x) != low_word(r, y) {
-        return false;
-    }
-    if high_word(r, x) != high_word(r, y) {
-        return false;
-    }
-    true
+    let r = search(w, a, b, n);
+    if r < n { Some(r) } else { None }
 }
 
 // How far back a row that is the same is looked for.
 const NEAR: usize = 12;
 
-// One of the rows before row x that is the same, or x where none that is near is.
-pub fn earlier(r: &[u64], x: usize) -> usize
-    requires { 2 * x + 1 < length r.now }
-    ensures { Earlier r.now x result }
-{
-    let from = x - lesser(x, NEAR);
-    for y in from..x {
-        if alike(r, x, y) {
-            return y;
+impl<const N: usize> Rows<N> {
+    // Rows that have nothing.
+    pub fn empty() -> Self
+        ensures blank { Blank result }
+        ensures long { length result ≡ N }
+    {
+        Rows { words: [0; N] }
+    }
+
+    // The words of row a.
+    fn of(&self, a: usize) -> Row
+        requires { 2 * a + 1 < N }
+        ensures low { result.low ≡ low_word self.now a }
+        ensures high { result.high ≡ high_word self.now a }
+    {
+        Row {
+            low: self.words[2 * a],
+            high: self.words[2 * a + 1],
         }
     }
-    x
+
+    // Makes these the words of row a.
+    fn store(&mut self, a: usize, row: Row)
+        requires { 2 * a + 1 < N }
+        ensures stored { self.new ≡ with_words self.old a row.low row.high }
+        ensures long { length self.old ≡ N }
+    {
+        self.words[2 * a] = row.low;
+        self.words[2 * a + 1] = row.high;
+    }
+
+    // Whether b stands in row a.
+    pub fn has(&self, a: usize, b: usize) -> bool
+        requires { (2 * a + 1 < N) × (b < 128) }
+        ensures { Tells result (Has self.now a b) }
+    {
+        stands(&self.words, a, b)
+    }
+
+    // Puts b into row a.
+    pub fn put(&mut self, a: usize, b: usize)
+        requires { (2 * a + 1 < N) × (b < 128) }
+        ensures { Added self.old self.new a b }
+    {
+        let i = 2 * a + b / 64;
+        self.words[i] |= 1u64 << (b % 64);
+    }
+
+    // Takes b out of row a.
+    pub fn take_out(&mut self, a: usize, b: usize)
+        requires { (2 * a + 1 < N) × (b < 128) }
+        ensures { Removed self.old self.new a b }
+    {
+        let i = 2 * a + b / 64;
+        self.words[i] &= !(1u64 << (b % 64));
+    }
+
+    // Puts row k into row a.
+    pub fn or_row(&mut self, a: usize, k: usize)
+        requires { (2 * a + 1 < N) × (2 * k + 1 < N) }
+        ensures { Poured self.old self.old self.new a k }
+    {
+        let both = self.of(a) | self.of(k);
+        self.store(a, both);
+    }
+
+    // Puts row k of u into row a. This isn't `or_row` too: rows that are lent for writing can't be lent as u beside.
+    pub fn pour<const M: usize>(&mut self, a: usize, u: &Rows<M>, k: usize)
+        requires { (2 * a + 1 < N) × (2 * k + 1 < M) }
+        ensures { Poured u.now self.old self.new a k }
+    {
+        let both = self.of(a) | u.of(k);
+        self.store(a, both);
+    }
+
+    // Keeps of row a what row k of u has too.
+    pub fn sift<const M: usize>(&mut self, a: usize, u: &Rows<M>, k: usize)
+        requires { (2 * a + 1 < N) × (2 * k + 1 < M) }
+        ensures { Sifted u.now self.old self.new a k }
+    {
+        let both = self.of(a) & u.of(k);
+        self.store(a, both);
+    }
+
+    // Empties row a.
+    pub fn empty_row(&mut self, a: usize)
+        requires { 2 * a + 1 < N }
+        ensures { Emptied self.old self.new a }
+    {
+        self.store(a, Row::EMPTY);
+    }
+
+    // Empties every row.
+    pub fn clear(&mut self)
+        ensures { Blank self.new }
+    {
+        self.words.fill(0);
+    }
+
+    // Whether row a and row z of s have a node in common.
+    pub fn meet<const M: usize>(&self, a: usize, s: &Rows<M>, z: usize) -> bool
+        requires { (2 * a + 1 < N) × (2 * z + 1 < M) }
+        ensures { Tells result (Meet self.now a s.now z) }
+    {
+        self.of(a) & s.of(z) != Row::EMPTY
+    }
+
+    // The least node of row a from b on and below n, if there is one.
+    pub fn next(&self, a: usize, b: usize, n: usize) -> Option<usize>
+        requires { (2 * a + 1 < N) × (b ≤ n) × (n ≤ 128) }
+        ensures { LeastIfAny (Has self.now a) b n result }
+    {
+        least(&self.words, a, b, n)
+    }
+
+    // The nodes of row a from b on and below n, in order.
+    pub fn members(&self, a: usize, b: usize, n: usize) -> Nodes<'_>
+        requires { (2 * a + 1 < N) × (b ≤ n) × (n ≤ 128) }
+        ensures { result ≡ coming self.now a b n }
+    {
+        Nodes {
+            words: &self.words,
+            a,
+            place: b,
+            n,
+        }
+    }
+
+    // Keeps what f has too. No `zip` with f: of what is written through one a proof knows the length alone.
+    pub fn narrow(&mut self, f: &Self)
+        ensures { Common f.now self.old self.new }
+    {
+        for (i, x) in self.words.iter_mut().enumerate() {
+            *x &= f.words[i];
+        }
+    }
+
+    // Whether row a has all that row k has.
+    pub fn within(&self, k: usize, a: usize) -> bool
+        requires { (2 * a + 1 < N) × (2 * k + 1 < N) }
+        ensures { Vouches result (Covers self.now a k) }
+    {
+        let whole = self.of(k);
+        whole & self.of(a) == whole
+    }
+
+    // One of the rows before row x that is the same, or x where none that is near is.
+    pub fn earlier(&self, x: usize) -> usize
+        requires { 2 * x + 1 < N }
+        ensures { Earlier self.now x result }
+    {
+        let row = self.of(x);
+        (x.saturating_sub(NEAR)..x)
+            .find(
+                |y|
+                    requires { 2 * y.now + 1 < N }
+                    ensures { Vouches result ((row.low ≡ low_word self.entry.now y.now) × (row.high ≡ high_word self.entry.now y.now)) }
+                { self.of(*y) == row },
+            )
+            .unwrap_or(x)
+    }
+
+    // Row a, as a set.
+    pub fn row(&self, a: usize) -> Set
+        requires { 2 * a + 1 < N }
+        ensures { Copied self.now a result }
+    {
+        let row = self.of(a);
+        Rows {
+            words: [row.low, row.high],
+        }
+    }
 }
 
-// Row a of m, into the one row of s.
-pub fn copy_row(m: &[u64; WORDS], a: usize, s: &mut [u64; 2])
-    requires { a < 128 }
-    ensures { Copied m.now a s.new }
-{
-    clear(s);
-    pour(m, a, s, 0);
+// The nodes of a row that are still to be given: those from a place on and below n.
+#[derive(Drop)]
+pub struct Nodes<'a> {
+    words: &'a [u64],
+    a: usize,
+    place: usize,
+    n: usize,
+}
+
+impl<'a> Model for Nodes<'a> {
+    ghost Value = { Coming };
+
+    ghost view = { λ s. coming s.words.now s.a s.place s.n };
+
+    ghost invariant = { λ s. (2 * s.a + 1 < length s.words.now) × (s.place ≤ s.n) × (s.n ≤ 128) };
+}
+
+impl<'a> Iterator for Nodes<'a> {
+    type Item = usize;
+
+    ghost next_gives = { Gives };
+
+    ghost remaining = { λ s. at_most (s.n - s.place) };
+
+    fn next(&mut self) -> Option<usize> {
+        let node = least(self.words, self.a, self.place, self.n);
+        self.place = match node {
+            Some(r) => r + 1,
+            None => self.n,
+        };
+        node
+    }
 }

@@ -1,8 +1,7 @@
 -- Who reaches whom in a listing, by rows of bits: the rows of the walks through every node, and what a mask test of one of their words says.
 use mathlib.Core.List.{List}
-use Prim.Native.Nat.{ℕ, ◌+◌, ◌*◌, ◌/◌, ◌^◌, ◌<◌}
+use Prim.Native.Nat.{ℕ, ◌<◌}
 use native.Mathlib.Omega.{arith}
-use lib.ListN.{get_or}
 use Rattle.listing.specs.Node.{Listing}
 use Rattle.order.specs.Rows.{All}
 use Rattle.order.specs.Walks.{Walk}
@@ -25,8 +24,8 @@ module _ {L : Listing} {n : ℕ} (few : Counted L n) {every : List ℕ} (all : M
     whole = λ a b la lb r. h.whole a b la lb (r.0, r.1, free_walk a r.0 b r.1);
   }
 
--- A MASK TEST EQUALS THE REACH RELATION: what `rows::has` computes of the rows that `reach_rows` fills, word for word
+-- A MASK TEST EQUALS THE REACH RELATION: what `Rows::has` computes of the rows that `reach_rows` fills, word for word
 pub mask_reaches : {L : Listing} {n : ℕ} → Counted L n → {w : List ℕ} → Holds w n (Reaches L) → (a b : ℕ) → a < n → b < n
-    → get_or w (2 * a + b / 64) 0 < 2 ^ 64 → Tells (masked w a b) (Reaches L a b)
-mask_reaches few {w} h a b la lb fits =
-    told_map _ _ (masked w a b) (λ g. (h.sound a b (omega (arith, few.small)) g).2) (h.whole a b la lb) (tells_has w a b fits)
+    → Tells (masked w a b) (Reaches L a b)
+mask_reaches few {w} h a b la lb =
+    told_map _ _ (masked w a b) (λ g. (h.sound a b (omega (arith, few.small)) g).2) (h.whole a b la lb) (tells_has w a b)

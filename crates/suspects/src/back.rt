@@ -1,7 +1,6 @@
 // Which pairs lie on a chain: those whose second access leads back to their first.
 ghost use Rattle.std.specs.Prelude.{◌<◌, ◌≤◌};
 ghost use Rattle.listing.specs.Bytes.{count_n, nodes_of};
-ghost use Rattle.listing.specs.Inner.Whole.{Whole};
 ghost use Rattle.order.specs.Walks.{Pair};
 ghost use Rattle.rows.specs.Inner.Rows.{Holds};
 ghost use Rattle.rows.specs.Inner.Growing.{RowGrown};
@@ -9,36 +8,35 @@ ghost use Rattle.meetings.specs.Inner.Meeting.{Meeting};
 ghost use Rattle.suspects.specs.Inner.Back.{RowBack};
 ghost use Rattle.suspects.specs.Inner.Suspect.{OnChain};
 
-use meetings::{Pick, gather};
-use rows::WORDS;
+use listing::Listing;
+use meetings::gather;
+use rows::Relation;
 
 // The pairs from a whose end meets a node of row a of h, into row a of w.
 fn back_row(
     n: usize,
-    p: &[u64; WORDS],
-    m: &[u64; WORDS],
-    h: &[u64; WORDS],
-    w: &mut [u64; WORDS],
+    p: &Relation,
+    m: &Relation,
+    h: &Relation,
+    w: &mut Relation,
     a: usize,
 )
     requires { (n ≤ 128) × (a < n) }
     ensures { RowGrown (RowBack p.now m.now h.now) w.old w.new a n }
 {
-    let mut b = rows::next(p, a, 0, n);
-    while b < n {
-        if rows::meet(m, b, h, a) {
-            rows::put(w, a, b);
+    for b in p.members(a, 0, n) {
+        if m.meet(b, h, a) {
+            w.put(a, b);
         }
-        b = rows::next(p, a, b + 1, n);
     }
 }
 
 // The same from every node.
-fn back_rows(n: usize, p: &[u64; WORDS], m: &[u64; WORDS], h: &[u64; WORDS], w: &mut [u64; WORDS])
+fn back_rows(n: usize, p: &Relation, m: &Relation, h: &Relation, w: &mut Relation)
     requires { n ≤ 128 }
     ensures { Holds w.new n (RowBack p.now m.now h.now) }
 {
-    rows::clear(w);
+    w.clear();
     for a in 0..n {
         back_row(n, p, m, h, w, a);
     }
@@ -46,19 +44,18 @@ fn back_rows(n: usize, p: &[u64; WORDS], m: &[u64; WORDS], h: &[u64; WORDS], w: 
 
 // The pairs on a chain. h is for the work: who leads back to whom. w keeps the pairs turned round before.
 pub fn chain_rows(
-    bytes: &[u8],
-    p: &[u64; WORDS],
-    m: &[u64; WORDS],
-    h: &mut [u64; WORDS],
-    w: &mut [u64; WORDS],
+    listing: &Listing,
+    p: &Relation,
+    m: &Relation,
+    h: &mut Relation,
+    w: &mut Relation,
 )
-    requires { Whole bytes.now × Holds p.now (count_n bytes.now) (Pair (nodes_of bytes.now))
-        × Holds m.now (count_n bytes.now) (Meeting (nodes_of bytes.now)) }
-    ensures { Holds w.new (count_n bytes.now) (OnChain (nodes_of bytes.now)) }
+    requires { Holds p.now (count_n listing.now) (Pair (nodes_of listing.now))
+        × Holds m.now (count_n listing.now) (Meeting (nodes_of listing.now)) }
+    ensures { Holds w.new (count_n listing.now) (OnChain (nodes_of listing.now)) }
 {
-    let n = listing::node_count(bytes);
-    let mut every = [0u64; 2];
-    gather(0, bytes, Pick::Every, &mut every);
+    let n = listing.nodes();
+    let every = gather(listing, |_| true);
     reach::turn(n, p, w);
     reach::compose(n, m, w, h);
     reach::close(n, &every, h);

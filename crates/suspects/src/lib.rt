@@ -5,42 +5,46 @@ mod back;
 
 ghost use Rattle.listing.specs.Bytes.{count_n, nodes_of};
 ghost use Rattle.listing.specs.Inner.Whole.{Whole};
+ghost use Rattle.order.specs.Inner.Asking.{asked};
 ghost use Rattle.order.specs.Walks.{Pair};
 ghost use Rattle.rows.specs.Inner.Rows.{Holds};
 ghost use Rattle.suspects.specs.Inner.Suspect.{Reaches, Exchanged, Ready};
 
-use meetings::{Pick, gather};
-use rows::WORDS;
+use listing::{Kind, Listing};
+use meetings::gather;
+use order::Question;
+use rows::Relation;
 
 // Who reaches whom.
-fn reach_rows(bytes: &[u8], w: &mut [u64; WORDS])
-    requires { Whole bytes.now }
-    ensures { Holds w.new (count_n bytes.now) (Reaches (nodes_of bytes.now)) }
+fn reach_rows(listing: &Listing, w: &mut Relation)
+    ensures { Holds w.new (count_n listing.now) (Reaches (nodes_of listing.now)) }
 {
-    let mut every = [0u64; 2];
-    gather(0, bytes, Pick::Every, &mut every);
-    reach::walks(bytes, &every, w);
+    let every = gather(listing, |_| true);
+    reach::walks(listing, &every, w);
 }
 
 // The pairs: who reaches whom, among accesses.
-fn pair_rows(bytes: &[u8], p: &mut [u64; WORDS])
-    requires { Whole bytes.now }
-    ensures { Holds p.new (count_n bytes.now) (Pair (nodes_of bytes.now)) }
+fn pair_rows(listing: &Listing, p: &mut Relation)
+    ensures pairs { Holds p.new (count_n listing.now) (Pair (nodes_of listing.now)) }
+    ensures whole { Whole listing.now }
 {
-    let mut accesses = [0u64; 2];
-    gather(0, bytes, Pick::Access, &mut accesses);
-    reach_rows(bytes, p);
-    reach::restrict(listing::node_count(bytes), &accesses, p);
+    let accesses = gather(listing, order::is_access);
+    reach_rows(listing, p);
+    reach::restrict(listing.nodes(), &accesses, p);
 }
 
 // Between which accesses some walk has an RMW inside. v is for the work: the pairs whose second node is an RMW.
-pub fn exchanged_rows(bytes: &[u8], p: &[u64; WORDS], v: &mut [u64; WORDS], i: &mut [u64; WORDS])
-    requires { Whole bytes.now × Holds p.now (count_n bytes.now) (Pair (nodes_of bytes.now)) }
-    ensures { Holds i.new (count_n bytes.now) (Exchanged (nodes_of bytes.now)) }
+pub fn exchanged_rows(
+    listing: &Listing,
+    p: &Relation,
+    v: &mut Relation,
+    i: &mut Relation,
+)
+    requires { Holds p.now (count_n listing.now) (Pair (nodes_of listing.now)) }
+    ensures { Holds i.new (count_n listing.now) (Exchanged (nodes_of listing.now)) }
 {
-    let n = listing::node_count(bytes);
-    let mut rmws = [0u64; 2];
-    gather(0, bytes, Pick::Kind { kind: listing::RMW }, &mut rmws);
+    let n = listing.nodes();
+    let rmws = gather(listing, |kind| matches!(kind, Kind::Rmw));
     reach::columns(n, &rmws, p, v);
     reach::compose(n, v, p, i);
 }
@@ -48,18 +52,18 @@ pub fn exchanged_rows(bytes: &[u8], p: &[u64; WORDS], v: &mut [u64; WORDS], i: &
 // The pairs, who meets whom, and the suspects: the pairs on a chain with a walk that no barrier bars. i is for the work: it keeps who leads back
 // to whom, and then the walks without barrier.
 pub fn suspects(
-    question: u8,
-    bytes: &[u8],
-    p: &mut [u64; WORDS],
-    m: &mut [u64; WORDS],
-    c: &mut [u64; WORDS],
-    i: &mut [u64; WORDS],
+    question: Question,
+    listing: &Listing,
+    p: &mut Relation,
+    m: &mut Relation,
+    c: &mut Relation,
+    i: &mut Relation,
 )
-    requires { Whole bytes.now }
-    ensures { Ready question bytes.now p.new m.new c.new }
+    ensures ready { Ready (asked question) listing.now p.new m.new c.new }
+    ensures whole { Whole listing.now }
 {
-    pair_rows(bytes, p);
-    meetings::meet_rows(bytes, m);
-    back::chain_rows(bytes, p, m, i, c);
-    barriers::keep_clear(question, bytes, i, c);
+    pair_rows(listing, p);
+    meetings::meet_rows(listing, m);
+    back::chain_rows(listing, p, m, i, c);
+    barriers::keep_clear(question, listing, i, c);
 }

@@ -4,4 +4,4 @@ use Rattle.barriers.proofs.keep_row.Goals as goal
 
 pub returns : goal.returns
 returns c =
-    row_kept _ _ _ _ _ _ _ c.copy_row.ensures c.pour.ensures c.sift.ensures
+    row_kept _ _ _ _ _ _ _ c.row-s.ensures c.pour.ensures c.sift.ensures

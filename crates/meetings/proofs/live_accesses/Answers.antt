@@ -4,4 +4,4 @@ use Rattle.meetings.proofs.live_accesses.Goals as goal
 
 pub returns : goal.returns
 returns c =
-    among_accesses _ _ _ _ _ _ c.requires.0 c.pour_all.ensures c.sift.ensures
+    among_accesses _ _ _ _ _ _ c.requires.0 c.pour_all-s.ensures c.sift.ensures

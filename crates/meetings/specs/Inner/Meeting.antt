@@ -1,5 +1,5 @@
 -- Who may meet whom, and what the rows keep on the way there.
-use Rattle.std.specs.Prelude.{◌≡◌, List, ℕ, ◌≤◌, ◌<◌, T}
+use Rattle.std.specs.Prelude.{◌≡◌, List, ℕ, ◌<◌, T, Option, Some, None}
 use Rattle.listing.specs.Node.{Listing}
 use Rattle.order.specs.Walks.{loc_at, Access}
 use Rattle.order.specs.Chains.{overlap, MayMeet}
@@ -9,10 +9,10 @@ use Rattle.rows.specs.Inner.Rows.{Has}
 abbrev pub Overlapping : Listing → ℕ → ℕ → Type 0
 Overlapping L a b = T (overlap (loc_at L a) (loc_at L b))
 
--- r is an earlier node with a's location, or a
-pub record Twin (L : Listing) (a r : ℕ) : Type 0 where
-  pub low : r ≤ a
-  pub same : r < a → loc_at L r ≡ loc_at L a
+-- if there is an answer, it is an earlier node with a's location
+abbrev pub TwinIfAny : Listing → ℕ → Option ℕ → Type 0
+TwinIfAny L a (Some r) = (r < a) × (loc_at L r ≡ loc_at L a)
+TwinIfAny L a None = Unit {0}
 
 -- b stands in the row of some node of u below i
 abbrev pub FromSome : List ℕ → List ℕ → ℕ → ℕ → Type 0

@@ -1,5 +1,4 @@
 -- What the search leaves of `reach::columns`.
-use native.Mathlib.Omega.{arith}
 use Rattle.rows.proofs.Growing.{rows_more}
 use Rattle.reach.proofs.Thinned.{row_ends}
 use Rattle.reach.proofs.columns.Goals as goal
@@ -7,5 +6,5 @@ use Rattle.reach.proofs.columns.Goals as goal
 pub loop-a-preserved : goal.loop-a-preserved
 loop-a-preserved c =
     let p = c.requires in
-    let done = c.loop-a.invariant.1 in
-    (omega arith, rows_more _ _ _ _ _ p.0 done (row_ends _ _ _ _ _ _ _ p.0 p.1 done c.pour.ensures c.sift.ensures))
+    let done = c.loop-a.invariant in
+    rows_more _ _ _ _ _ p.0 done (row_ends _ _ _ _ _ _ _ p.0 p.1 done c.pour.ensures c.sift.ensures)

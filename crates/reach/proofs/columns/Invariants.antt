@@ -1,11 +1,7 @@
 -- `reach::columns` meets its contract.
-use Prim.Native.Nat.{◌≤◌, ◌-◌}
 use Rattle.rows.specs.Inner.Growing.{RowsDone}
 use Rattle.reach.specs.Inner.Whole.{EndsIn}
 use Rattle.reach.proofs.columns.Given as goal
 
 abbrev pub invariant-loop-a : goal.invariant-loop-a
-invariant-loop-a l = (l.a ≤ l.n) × RowsDone (EndsIn l.s l.w) l.v l.a l.n
-
-abbrev pub decreases-loop-a : goal.decreases-loop-a
-decreases-loop-a l = l.n - l.a
+invariant-loop-a l = RowsDone (EndsIn l.s l.w) l.v l.a l.n

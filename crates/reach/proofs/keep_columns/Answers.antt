@@ -1,8 +1,7 @@
 -- What the search leaves of `reach::keep_columns`.
-use native.Mathlib.Omega.{arith}
 use Rattle.reach.proofs.Thinned.{thinned_more, sifts}
 use Rattle.reach.proofs.keep_columns.Goals as goal
 
 pub loop-a-preserved : goal.loop-a-preserved
 loop-a-preserved c =
-    (omega arith, thinned_more _ _ _ _ c.loop-a.invariant.1 (sifts _ _ _ _ c.sift.ensures))
+    thinned_more _ _ _ _ c.loop-a.invariant (sifts _ _ _ _ c.sift.ensures)

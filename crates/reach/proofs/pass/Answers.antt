@@ -10,6 +10,6 @@ loop-a-preserved c =
     let p = c.requires in
     let hk : c.args.k < 128 = omega arith in
     elim c.if-has.branch [
-      | then-has q ↦ (omega arith, rw q.w-is (passed_or _ _ _ _ hk c.loop-a.invariant.1 _ (rw q.if-has.true at c.has.ensures) q.or_row.ensures))
-      | else-has q ↦ (omega arith, rw q.w-is (passed_skip _ _ _ _ hk c.loop-a.invariant.1 (rw q.if-has.false at c.has.ensures)))
+      | then-has q ↦ rw q.w-is (passed_or _ _ _ _ hk c.loop-a.invariant _ (rw q.if-has.true at c.has.ensures) q.or_row.ensures)
+      | else-has q ↦ rw q.w-is (passed_skip _ _ _ _ hk c.loop-a.invariant (rw q.if-has.false at c.has.ensures))
     ]

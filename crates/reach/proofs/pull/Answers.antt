@@ -5,4 +5,4 @@ use Rattle.reach.proofs.pull.Goals as goal
 pub returns : goal.returns
 returns c =
     let a = c.args in
-    rw c.wide-y.ensures.0 at (pulled_or a.m.now _ _ a.n _ _ c.if-n-y.false c.if-not-has.ensures c.or_row.ensures)
+    rw c.from-y.ensures at (pulled_or a.m.now _ _ a.n _ _ c.if-n-y.false c.if-not-has.ensures c.or_row.ensures)

@@ -10,9 +10,9 @@ use Rattle.reach.proofs.sweep.Goals as goal
 
 pub loop-a-preserved : goal.loop-a-preserved
 loop-a-preserved c =
-    let inv = c.loop-a.invariant in
-    let bytes = c.args.bytes.now in
+    let bytes = c.args.listing.now in
+    let n = c.nodes-n.ensures in
     let h : c.loop-a.a - 1 < count_n bytes = omega arith in
-    let pulled = begun_pull (nodes_of bytes) c.args.m.now (count_n bytes) c.requires.0.few (nodes_length bytes) in
-    let one = pulled _ _ _ _ h (inl refl) inv.3 (rw (inv.0, c.first_at.ensures) at c.pull.ensures) in
-    (inv.0, inv.1, omega arith, pulled _ _ _ _ h (inr refl) one (rw (inv.0, c.second_at.ensures) at c.pull-in-loop-a.ensures))
+    let pulled = begun_pull (nodes_of bytes) c.args.m.now (count_n bytes) n.whole.few (nodes_length bytes) in
+    let one = pulled _ _ _ _ h (inl refl) c.loop-a.invariant (rw (n.count.0, c.first.ensures) at c.pull.ensures) in
+    pulled _ _ _ _ h (inr refl) one (rw (n.count.0, c.second.ensures) at c.pull-in-loop-a.ensures)

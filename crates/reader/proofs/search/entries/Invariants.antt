@@ -1,11 +1,7 @@
 -- `reader::search::entries` meets its contract. The loop's invariant: the entries below `a` are found.
-use Prim.Native.Nat.{◌≤◌, ◌-◌}
 use Rattle.listing.specs.Bytes.{nodes_of}
 use Rattle.reader.specs.Inner.Search.{Seen}
 use Rattle.reader.proofs.search.entries.Given as goal
 
 abbrev pub invariant-loop-a : goal.invariant-loop-a
-invariant-loop-a l = (l.a ≤ l.n) × Seen (nodes_of l.listing) l.routines l.found l.a
-
-abbrev pub decreases-loop-a : goal.decreases-loop-a
-decreases-loop-a l = l.n - l.a
+invariant-loop-a l = Seen (nodes_of l.listing) l.routines l.found l.a

@@ -1,9 +1,0 @@
--- `rows::earlier` meets its contract.
-use Prim.Native.Nat.{◌≤◌, ◌-◌}
-use Rattle.rows.proofs.earlier.Given as goal
-
-abbrev pub invariant-loop-y : goal.invariant-loop-y
-invariant-loop-y l = l.y ≤ l.x
-
-abbrev pub decreases-loop-y : goal.decreases-loop-y
-decreases-loop-y l = l.x - l.y
