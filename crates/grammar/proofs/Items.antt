@@ -14,9 +14,9 @@ use Rattle.words.specs.Inner.Looking.{is_end}
 use Rattle.grammar.specs.declared.reader.Misplaced.{Misplaced}
 use Rattle.grammar.specs.Tree.{access, fence, loop, either, DEPTH, item_size, ItemWithin}
 use Rattle.grammar.specs.Inner.Reader.{SoFar, Outside, of_loop, of_first, of_second, deep, opening, inside, located, stuck, enter, from}
-use Rattle.grammar.specs.Inner.Reader.{from_word, Levels, Cursor, word_of, Looked, Passed, ItemAhead, ItemRead, BlockRead}
+use Rattle.grammar.specs.Inner.Reader.{from_word, Levels, Cursor, word_of, Looked, Passed, Met, IsNumber, ItemAhead, ItemRead, BlockRead}
 use Rattle.grammar.proofs.Steps.{lower}
-use Rattle.grammar.proofs.Moves.{led, NoNumber, no_number, NoItem, no_item, stands_not}
+use Rattle.grammar.proofs.Moves.{led, no_number, NoItem, no_item, stands_not}
 
 -- the word k is no end
 pub no_end : {w : Said} (k : Said) → w ≡ k → is_end k ≡ false → w ≡ said.End → ⊥
@@ -60,15 +60,15 @@ module _ (s : List ℕ) (w : Said) (d : ℕ) (old : Cursor) (ok : ItemAhead s w 
         )
 
     -- an access: its location is the word looked at next
-    module _ (k : Kind) (e : w ≡ said.Access k) (one : n ≡ 1) (v : Said) (new : Cursor) (l : Looked s mid new v) where
-      to_location : (x : SoFar) (a : Outside)
+    module _ (k : Kind) (e : w ≡ said.Access k) (one : n ≡ 1) where
+      to_location : {v : Said} {new : Cursor} → Looked s mid new v → (x : SoFar) (a : Outside)
           → from_word s (inside x a) (word_of w old) ≡ from_word s (located (number_of k) x a) (word_of v new)
-      to_location x a =
+      to_location l x a =
           led s (word_of w old) (inside x a) (said.Access k) e refl ∙ ap (from s (located (number_of k) x a)) (sym p.end) ∙ rw l.ahead.same
 
-      pub item_access : (m : ℕ) → v ≡ said.Number m → ItemRead s w d old new (Ok tt)
+      pub item_access : (new : Cursor) (r : Result Unit Misplaced) → Met IsNumber s mid new r → ItemRead s w d old new r
       unfolding item_size ItemWithin
-      item_access m h =
+      item_access new (Ok _) (v, l, (m, h)) =
           let past = (room (said.Access k) e refl).0 in
           let more = l.ahead.found.some (no_end (said.Number m) h refl) in
           let on = l.ahead.later in
@@ -81,16 +81,14 @@ module _ (s : List ℕ) (w : Said) (d : ℕ) (old : Cursor) (ok : ItemAhead s w 
             l.ahead.found.within,
             record {
               within = tt;
-              same = λ x a _. to_location x a ∙ led s (word_of v new) (located (number_of k) x a) (said.Number m) h refl;
+              same = λ x a _. to_location l x a ∙ led s (word_of v new) (located (number_of k) x a) (said.Number m) h refl;
             },
           )
-
-      pub no_location : {r : Misplaced} → NoNumber v → ItemRead s w d old new (Err r)
-      no_location stays = (
+      item_access new (Err _) (v, l, other) = (
         l.text,
         λ x a h.
-            to_location x a
-            ∙ stands_not s (word_of v new) l.ahead.found.none (located (number_of k) x a) refl (no_number (number_of k) x a v stays),
+            to_location l x a
+            ∙ stands_not s (word_of v new) l.ahead.found.none (located (number_of k) x a) refl (no_number (number_of k) x a v other),
       )
 
     -- a level is left: the blocks follow

@@ -11,7 +11,7 @@ use Rattle.words.specs.declared.Word.{Word as Said}
 use Rattle.words.specs.declared.Word.TheVariants as said
 use Rattle.grammar.specs.Tree.{Text}
 use Rattle.grammar.specs.Inner.Reader.{SoFar, Outside, State, between, opening, inside, located, stuck, move, bad, stop, onward, from}
-use Rattle.grammar.specs.Inner.Reader.{from_word}
+use Rattle.grammar.specs.Inner.Reader.{from_word, IsNumber}
 
 module _ (s : List ℕ) (w : Found) where
   -- the word k was found
@@ -41,13 +41,9 @@ no_open a k = elim k as (λ j. (j ≡ said.Open → ⊥) → Stuck (opening a) j
   | _ ↦ λ h. refl
 ]
 
--- the word k is no number
-abbrev pub NoNumber : Said → Type 0
-NoNumber k = (n : ℕ) → k ≡ said.Number n → ⊥
-
-pub no_number : (j : ℕ) (x : SoFar) (a : Outside) (k : Said) → NoNumber k → Stuck (located j x a) k
-no_number j x a k = elim k as (λ i. NoNumber i → Stuck (located j x a) i) [
-  | said.Number n ↦ λ h. absurd (h n refl)
+pub no_number : (j : ℕ) (x : SoFar) (a : Outside) (k : Said) → (IsNumber k → ⊥) → Stuck (located j x a) k
+no_number j x a k = elim k as (λ i. (IsNumber i → ⊥) → Stuck (located j x a) i) [
+  | said.Number n ↦ λ h. absurd (h (n, refl))
   | _ ↦ λ h. refl
 ]
 

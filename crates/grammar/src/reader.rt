@@ -40,7 +40,7 @@ impl<'a> Model for Reader<'a> {
 impl<'a> Reader<'a> {
     ghost use Rattle.std.specs.Prelude.{◌≡◌, ◌+◌, ◌≤◌, length};
     ghost use Rattle.listing.specs.declared.reason.Reason.TheVariants.{Text};
-    ghost use Rattle.grammar.specs.Inner.Reader.{cursor, Looked, Passed, ItemAhead, ItemRead, BlockRead};
+    ghost use Rattle.grammar.specs.Inner.Reader.{cursor, Looked, Passed, Met, IsOpen, IsNumber, ItemAhead, ItemRead, BlockRead};
 
     // Nothing of the text was looked at yet.
     pub fn new(text: &'a [u8]) -> Self
@@ -99,6 +99,28 @@ impl<'a> Reader<'a> {
         self.passed += nodes;
     }
 
+    // The next word, which must be a location. What it says stays off the stack of the levels, and so below.
+    #[inline(never)]
+    fn location(&mut self) -> Result<(), Misplaced>
+        ensures { Met IsNumber self.old.text self.old self.new result }
+    {
+        match self.look() {
+            Word::Number(_) => Ok(()),
+            _ => Err(Misplaced),
+        }
+    }
+
+    // The next word, which must be a block's `{`.
+    #[inline(never)]
+    fn brace(&mut self) -> Result<(), Misplaced>
+        ensures { Met IsOpen self.old.text self.old self.new result }
+    {
+        match self.look() {
+            Word::Open => Ok(()),
+            _ => Err(Misplaced),
+        }
+    }
+
     // The item whose first word, the one looked at last, is this.
     #[cycle(block_item)]
     fn item(&mut self, word: Word, depth: usize) -> Result<(), Misplaced>
@@ -108,10 +130,7 @@ impl<'a> Reader<'a> {
         match word {
             Word::Access(_) => {
                 self.pass(1);
-                match self.look() {
-                    Word::Number(_) => Ok(()),
-                    _ => Err(Misplaced),
-                }
+                self.location()
             }
             Word::Fence => {
                 self.pass(1);
@@ -138,9 +157,7 @@ impl<'a> Reader<'a> {
     pub fn block(&mut self, depth: usize) -> Result<(), Misplaced>
         ensures { BlockRead self.old.text depth self.old self.new result }
     {
-        let Word::Open = self.look() else {
-            return Err(Misplaced);
-        };
+        self.brace()?;
         let mut word = self.look();
         if let Word::Close = word {
             return Err(Misplaced); // no block is empty

@@ -22,13 +22,13 @@ returns-in-End c =
 pub returns-in-Err : goal.returns-in-Err
 returns-in-Err c =
     let look = word (goal.at.returns-in-Err c).After-look in
-    let read = block_read c.args.text.now DEPTH c.look.new.self c.block.new.self look.text (Err _) c.in-Err.ensures in
+    let read = block_read c.args.text.now c.look.new.self c.block.new.self look.text (Err _) DEPTH c.in-Err.ensures in
     rw c.bad.ensures (part_bad _ _ _ c.loop-reader.invariant _ _ look c.in-Routine.is c.block.new.self read)
 
 pub loop-reader-preserved : goal.loop-reader-preserved
 loop-reader-preserved c =
     let look = word (goal.at.loop-reader-preserved c).After-look in
-    let read = block_read c.args.text.now DEPTH c.look.new.self c.block.new.self look.text (Ok tt) c.in-Ok.ensures in
+    let read = block_read c.args.text.now c.look.new.self c.block.new.self look.text (Ok tt) DEPTH c.in-Ok.ensures in
     part_read _ _ _ c.loop-reader.invariant _ _ look c.in-Routine.is c.block.new.self read
 
 pub returns-in_default : goal.returns-in_default

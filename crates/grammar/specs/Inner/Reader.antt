@@ -184,6 +184,17 @@ pub record Passed (old : Cursor) (n : ℕ) (new : Cursor) : Type 0 where
   pub end : new.end ≡ old.end
   pub passed : new.passed ≡ old.passed + n
 
+-- the next word was looked at: one that must be next, or another, which can't stand there
+abbrev pub Met : (Said → Type 0) → List ℕ → Cursor → Cursor → Result Unit Misplaced → Type 0
+Met P s old new (Ok _) = (w : Said) × Looked s old new w × P w
+Met P s old new (Err _) = (w : Said) × Looked s old new w × (P w → ⊥)
+
+abbrev pub IsOpen : Said → Type 0
+IsOpen w = w ≡ said.Open
+
+abbrev pub IsNumber : Said → Type 0
+IsNumber w = (n : ℕ) × (w ≡ said.Number n)
+
 -- the first word of an item was looked at, or no word is left; the nodes passed so far are fewer than the bytes before it
 pub record ItemAhead (s : List ℕ) (w : Said) (at : Cursor) : Type 0 where
   pub found : Place s (word_of w at)

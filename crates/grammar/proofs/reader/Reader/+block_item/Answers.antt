@@ -6,27 +6,30 @@ use lib.ListN.{length}
 use Rattle.std.specs.Prelude.{Ok, Err}
 use Rattle.std.proofs.lemmas.Result.{err_from_is_err_and}
 use Rattle.words.specs.declared.Word.TheVariants as said
-use Rattle.grammar.specs.Inner.Reader.{BlockGoes, ItemRead}
-use Rattle.grammar.proofs.Kept.{looked, item_read, block_read}
-use Rattle.grammar.proofs.Items.{room, item_other, no_deeper_loop, no_deeper_either, item_fence, item_access, no_location, item_loop, first_bad, item_either}
+use Rattle.grammar.specs.Inner.Reader.{IsNumber, BlockGoes, ItemRead}
+use Rattle.grammar.proofs.Kept.{looked, met, item_read, block_read}
+use Rattle.grammar.proofs.Items.{room, item_other, no_deeper_loop, no_deeper_either, item_fence, item_access, item_loop, first_bad, item_either}
 use Rattle.grammar.proofs.Blocks.{block_bad, block_opens, item_ahead, item_bad, item_on, block_goes, block_empty, block_closes}
 use Rattle.grammar.proofs.reader.Reader.+block_item.Goals as goal
-use Rattle.grammar.proofs.reader.Reader.+block_item.Goals.{block-At-loop-self, block-In-Open, block-After-look-word-in-loop-self}
+use Rattle.grammar.proofs.reader.Reader.+block_item.Goals.{block-After-look-word-in-loop-self}
 
 -- ── The block reader ──────────────────────────────────────────────────────
-pub block-returns-in_default : goal.block-returns-in_default
-block-returns-in_default t c = block_bad _ _ _ _ _ c.look.ensures c.in_default.not-Open
+pub block-returns-in_err-brace : goal.block-returns-in_err-brace
+block-returns-in_err-brace t c =
+    let p = err_from_is_err_and c.from_residual.result c.from_residual.ensures.1 in
+    let (w, look, other) = c.in_err-brace.ensures in
+    rw p.1 (block_bad _ _ _ w _ look other)
 
 pub block-returns-in-Close : goal.block-returns-in-Close
 block-returns-in-Close t c =
-    let goes = block_opens _ _ _ _ _ c.look.ensures c.in-Open.is _ _ (looked c.look.ensures.text c.look-word.ensures) in
-    block_empty _ _ _ _ _ goes c.in-Close.is (omega (arith, c.look.ensures.passed, c.look-word.ensures.passed))
+    let (w, look, is) = c.in_ok-brace.ensures in
+    let goes = block_opens _ _ _ w _ look is _ _ (looked look.text c.look-word.ensures) in
+    block_empty _ _ _ _ _ goes c.in-Close.is (omega (arith, look.passed, c.look-word.ensures.passed))
 
 pub block-loop-self-init : goal.block-loop-self-init
-block-loop-self-init t c = (
-  block_opens _ _ _ _ _ c.look.ensures c.in-Open.is _ _ (looked c.look.ensures.text c.look-word.ensures),
-  c.in_default-word.not-Close,
-)
+block-loop-self-init t c =
+    let (w, look, is) = c.in_ok-brace.ensures in
+    (block_opens _ _ _ w _ look is _ _ (looked look.text c.look-word.ensures), c.in_default.not-Close)
 
 pub block-item-requires : goal.block-item-requires
 block-item-requires t c =
@@ -36,17 +39,17 @@ block-item-requires t c =
 
 pub block-returns-in_err-item : goal.block-returns-in_err-item
 block-returns-in_err-item t c =
-    let p = err_from_is_err_and c.from_residual.result c.from_residual.ensures.1 in
+    let p = err_from_is_err_and c.from_residual-in_err-item.result c.from_residual-in_err-item.ensures.1 in
     let o = c.args in
     let g = c.loop-self.invariant.0 in
-    let read = item_read o.self.now.text o.depth c.loop-self.self c.item.new.self g.text (Err _) c.loop-self.word c.in_err-item.ensures in
+    let read = item_read o.self.now.text c.loop-self.self c.item.new.self g.text (Err _) c.loop-self.word o.depth c.in_err-item.ensures in
     rw p.1 (item_bad _ _ _ _ _ g c.item.new.self read)
 
 -- one item more was read
 read : (t : ℕ) (c : block-After-look-word-in-loop-self t) → ItemRead c.args.self.now.text c.loop-self.word c.args.depth c.loop-self.self c.item.new.self (Ok tt)
 read t c =
     let o = c.args in
-    item_read o.self.now.text o.depth c.loop-self.self c.item.new.self c.loop-self.invariant.0.text (Ok tt) c.loop-self.word c.in_ok-item.ensures
+    item_read o.self.now.text c.loop-self.self c.item.new.self c.loop-self.invariant.0.text (Ok tt) c.loop-self.word o.depth c.in_ok-item.ensures
 
 more : (t : ℕ) (c : block-After-look-word-in-loop-self t)
     → BlockGoes c.args.self.now.text c.args.depth c.args.self.now c.look-word-in-loop-self.new.self c.look-word-in-loop-self.result
@@ -69,7 +72,7 @@ block-loop-self-smaller t c =
 pub block-loop-self-preserved : goal.block-loop-self-preserved
 block-loop-self-preserved t c = (
   more t (goal.at.block-loop-self-preserved t c).After-look-word-in-loop-self,
-  c.in_default-word-2.not-Close,
+  c.in_default-word.not-Close,
 )
 
 -- ── The item reader ───────────────────────────────────────────────────────
@@ -103,7 +106,7 @@ item-returns-in_err-block-in-Either t c =
     let pass = c.pass-in-Either.ensures in
     let inner = c.in_ok-inside-in-Either.inside in
     let half = c.block-in-Either.new.self in
-    let read = block_read c.args.self.now.text inner c.pass-in-Either.new.self half pass.text (Err _) c.in_err-block-in-Either.ensures in
+    let read = block_read c.args.self.now.text c.pass-in-Either.new.self half pass.text (Err _) inner c.in_err-block-in-Either.ensures in
     rw p.1 (first_bad _ _ _ _ c.requires _ _ refl pass _ c.in_ok-inside-in-Either.ensures c.in-Either.is half read)
 
 pub item-block-requires-in-Either-2 : goal.item-block-requires-in-Either-2
@@ -114,15 +117,11 @@ item-block-requires-in-Either-2 t c =
     let left : c.args.depth ≡ c.in_ok-inside-in-Either.inside + 1 = c.in_ok-inside-in-Either.ensures in
     (omega (arith, c.requires.found.within, c.pass-in-Either.ensures.end, c.decreases), tt)
 
-pub item-returns-in-Number : goal.item-returns-in-Number
-item-returns-in-Number t c =
+pub item-returns-in-Access : goal.item-returns-in-Access
+item-returns-in-Access t c =
     let pass = c.pass.ensures in
-    item_access _ _ _ _ c.requires _ _ refl pass _ c.in-Access.is refl _ _ (looked pass.text c.look.ensures) _ c.in-Number.is
-
-pub item-returns-in_default-look : goal.item-returns-in_default-look
-item-returns-in_default-look t c =
-    let pass = c.pass.ensures in
-    no_location _ _ _ _ c.requires _ _ refl pass _ c.in-Access.is refl _ _ (looked pass.text c.look.ensures) c.in_default-look.not-Number
+    let next = met c.args.self.now.text c.pass.new.self c.location.new.self pass.text _ IsNumber c.location.ensures in
+    item_access _ _ _ _ c.requires _ _ refl pass _ c.in-Access.is refl _ _ next
 
 pub item-returns-in-Fence : goal.item-returns-in-Fence
 item-returns-in-Fence t c = item_fence _ _ _ _ c.requires _ _ refl c.pass-in-Fence.ensures c.in-Fence.is refl
@@ -132,16 +131,16 @@ item-returns-in_ok-inside-in-Loop t c =
     let pass = c.pass-in-Loop.ensures in
     let inner = c.in_ok-inside-in-Loop.inside in
     item_loop _ _ _ _ c.requires _ _ refl pass _ c.in_ok-inside-in-Loop.ensures c.in-Loop.is refl _ _
-    (block_read c.args.self.now.text inner c.pass-in-Loop.new.self c.block.new.self pass.text _ c.block.ensures)
+    (block_read c.args.self.now.text c.pass-in-Loop.new.self c.block.new.self pass.text _ inner c.block.ensures)
 
 pub item-returns-in_ok-block-in-Either : goal.item-returns-in_ok-block-in-Either
 item-returns-in_ok-block-in-Either t c =
     let pass = c.pass-in-Either.ensures in
     let s = c.args.self.now.text in
     let inner = c.in_ok-inside-in-Either.inside in
-    let first = block_read s inner c.pass-in-Either.new.self c.block-in-Either.new.self pass.text (Ok tt) c.in_ok-block-in-Either.ensures in
+    let first = block_read s c.pass-in-Either.new.self c.block-in-Either.new.self pass.text (Ok tt) inner c.in_ok-block-in-Either.ensures in
     item_either _ _ _ _ c.requires _ _ refl pass _ c.in_ok-inside-in-Either.ensures c.in-Either.is c.block-in-Either.new.self refl first _ _
-    (block_read s inner c.block-in-Either.new.self c.block-in-Either-2.new.self first.1 _ c.block-in-Either-2.ensures)
+    (block_read s c.block-in-Either.new.self c.block-in-Either-2.new.self first.1 _ inner c.block-in-Either-2.ensures)
 
 pub item-returns-in_default : goal.item-returns-in_default
 item-returns-in_default t c =
