@@ -6,7 +6,8 @@ mod reader;
 ghost use Rattle.grammar.specs.Inner.Reader.{TextRead};
 
 use listing::Reason;
-pub use reader::{Misplaced, Reader};
+use reader::Misplaced;
+pub use reader::Reader;
 use words::Word;
 
 // `loop` and `either` count; a ninth can't stand.

@@ -8,7 +8,7 @@ use words::{Word, next};
 // The word looked at last can't stand where it is, or the text breaks off there. It has no place of its own: a level takes little of the
 // stack, and the reader has the place.
 #[derive(Clone, Copy)]
-pub struct Misplaced;
+pub(super) struct Misplaced;
 
 // The levels left one level deeper, if there is one.
 fn deeper(depth: usize) -> Result<usize, Misplaced>
@@ -75,7 +75,7 @@ impl<'a> Reader<'a> {
     }
 
     // The refusal of a text that is bad at the word looked at last.
-    pub fn bad(&self) -> Reason
+    pub(super) fn bad(&self) -> Reason
         ensures { result ≡ Text self.now.start }
     {
         Reason::Text { at: self.start }
@@ -99,7 +99,7 @@ impl<'a> Reader<'a> {
         self.passed += nodes;
     }
 
-    // The next word, which must be a location. What it says stays off the stack of the levels, and so below.
+    // The next word, which must be a location. Not inlined, here and below, so that what it says stays off the stack of the levels.
     #[inline(never)]
     fn location(&mut self) -> Result<(), Misplaced>
         ensures { Met IsNumber self.old.text self.old self.new result }
@@ -154,7 +154,7 @@ impl<'a> Reader<'a> {
 
     // The block whose `{` is next.
     #[cycle(block_item)]
-    pub fn block(&mut self, depth: usize) -> Result<(), Misplaced>
+    pub(super) fn block(&mut self, depth: usize) -> Result<(), Misplaced>
         ensures { BlockRead self.old.text depth self.old self.new result }
     {
         self.brace()?;

@@ -52,15 +52,6 @@ module _ {s : List ℕ} {old new : Cursor} {w : Said} (l : Looked s old new w) w
   pub look_location : location (tokens s old.end) ≡ location_of (token_of w)
   look_location = by_end w (λ e. ap location (look_none e) ∙ rw e) (λ h. ap location (look_some h))
 
-  pub look_small : location_of (token_of w) ≤ FARTHEST
-  look_small = go w l.ahead.found.small
-    where
-      go : (k : Said) → ((n : ℕ) → k ≡ said.Number n → n ≤ FARTHEST) → location_of (token_of k) ≤ FARTHEST
-      go k = elim k as (λ j. ((n : ℕ) → j ≡ said.Number n → n ≤ FARTHEST) → location_of (token_of j) ≤ FARTHEST) [
-        | said.Number n ↦ λ h. h n refl
-        | _ ↦ λ h. omega arith
-      ]
-
   pub look_located : located (tokens s old.end) ≡ tokens s new.end
   look_located = by_end w (λ e. ap located (look_none e) ∙ sym (end_none e)) (λ h. ap located (look_some h))
 

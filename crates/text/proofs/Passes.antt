@@ -47,9 +47,6 @@ forked_past {new = new} e x = subst (λ (a : Cursor). PastBlock a.text a new) e 
 pub past_on : {s : List ℕ} {at new : Cursor} → at.text ≡ s → PastBlock at.text at new → PastBlock s at new
 past_on {at = at} {new} e x = subst (λ (t : List ℕ). PastBlock t at new) e x
 
-pub passing_starts : (at : Cursor) → Passing at.text at at 0
-passing_starts at = record { text = refl; same = refl; less = omega arith }
-
 module _ {s : List ℕ} {old at new : Cursor} {o : ℕ} {w : Said} (so : Passing s old at o) (l : Looked s at new w) where
   ends : past (tokens s at.end) o at.passed ≡ beyond at.passed (tokens s new.end) → PastBlock s old new
   ends e = record {

@@ -40,7 +40,7 @@ pub fn past_block(on: &mut Reader)
     }
 }
 
-// The exits of the open blocks are one number, in which a level takes eight bits.
+// The exits of the open blocks are one number, in which a level takes eight bits: a fixed array of levels would want its length beside it.
 pub const LEVEL: usize = 256;
 
 // From here on they have no room for one level more: 56 bits are seven.

@@ -3,7 +3,7 @@ ghost use Rattle.std.specs.Prelude.{◌≡◌, ◌<◌};
 
 use listing::{Kind, Listing, NONE, put_record};
 
-// No node, as a number that a node leads to.
+// No node, as a number that a node leads to: the tree's nodes (`nodes_of`) say it so, larger than any node, and an Option would not be.
 pub const NOWHERE: usize = NONE as usize;
 
 // A number as a byte, where it is one.
