@@ -1,12 +1,12 @@
 -- The line of judge's answer is the judge program's line.
 use mathlib.Core.Path.{◌≡◌, refl, sym, ap, ap₂, subst, ◌∙◌}
 use mathlib.Core.List.{List, [], ◌∷◌, ◌++◌, append_assoc}
-use Prim.Native.Nat.{ℕ, ◌-◌, ◌≤◌}
+use Prim.Native.Nat.{ℕ, ◌≤◌}
 use native.Mathlib.Omega.{arith}
 use Rattle.std.specs.Prelude.{Result, Ok, Err}
 use lib.ListN.{length, drop}
 use Rattle.listing.specs.Node.{Listing}
-use Rattle.listing.specs.Bytes.{byte, nodes_of}
+use Rattle.listing.specs.Bytes.{nodes_of}
 use Rattle.listing.specs.Rules.{Rule, Refusal, passed, refused, first_of}
 use Rattle.listing.specs.Answer.{Answer, refusal, filled}
 use Rattle.listing.specs.Ascii.{bytes}
@@ -57,11 +57,11 @@ verdict_line_lem (opened p rest) r old new e w =
     ∙ ap (open_line p.0 p.1 n) (written ps (drop (length (chain_bytes ps)) old))
 
 -- a refusal that was said is its reason's line, whatever the words for ROBUST
-pub refusal_told : (robust : List ℕ) (k p : ℕ) (r : Result Decided Reason) (new : List ℕ)
-    → judge_says r ≡ refusal k p → told_line robust r new ≡ refusal_line k p
-refusal_told robust k p (Ok Robust) new e = let z : ◌≡◌ {A = ℕ} 0 2 = one_kind e in absurd (omega arith)
-refusal_told robust k p (Ok (Open a b n)) new e = let z : ◌≡◌ {A = ℕ} 1 2 = one_kind e in absurd (omega arith)
-refusal_told robust k p (Err r) new e = ap₂ refusal_line (ap (λ (x : Answer). x.first) e) (ap (λ (x : Answer). x.second) e)
+pub refusal_told : (words : List ℕ) (k p : ℕ) (r : Result Decided Reason) (new : List ℕ)
+    → judge_says r ≡ refusal k p → told_line words r new ≡ refusal_line k p
+refusal_told words k p (Ok Robust) new e = let z : ◌≡◌ {A = ℕ} 0 2 = one_kind e in absurd (omega arith)
+refusal_told words k p (Ok (Open a b n)) new e = let z : ◌≡◌ {A = ℕ} 1 2 = one_kind e in absurd (omega arith)
+refusal_told words k p (Err r) new e = ap₂ refusal_line (ap (λ (x : Answer). x.first) e) (ap (λ (x : Answer). x.second) e)
 
 judged_line_lem : (f : Refusal) (q : ℕ) (L : Listing) (old new : List ℕ) (r : Result Decided Reason)
     → Judging f q L old new (judge_says r) → JudgedLine f q L (judged_line r new)

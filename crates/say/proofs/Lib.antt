@@ -1,5 +1,5 @@
 pub mod Lining
-pub mod Room
+pub mod Sizes
 pub mod Pieces
 pub mod Judging
 pub mod Proposing

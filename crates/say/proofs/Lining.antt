@@ -1,11 +1,10 @@
 -- Text put at the start of a buffer is the line in it.
 use mathlib.Core.Path.{◌≡◌, sym, ap, subst, subst₂, ◌∙◌}
-use mathlib.Core.List.{List, ◌∷◌, ◌++◌}
-use Prim.Native.Nat.{ℕ, suc, ◌-◌, ◌≤◌}
+use mathlib.Core.List.{List, ◌++◌}
+use Prim.Native.Nat.{ℕ, ◌≤◌}
 use native.Mathlib.Omega.{arith}
-use borrow.Rule.Slice.PartMut.{mid_of}
 use lib.ListN.{length, take, drop, length-append}
-use lib.Seq.{length-sets, take_all, take-append_seam}
+use lib.Seq.{length-sets, take-append_seam}
 use Rattle.io.specs.Counts.{IsPrefixLen}
 use Rattle.listing.proofs.Stores.{fills}
 use Rattle.lines.specs.Inner.Put.{Put}

@@ -2,7 +2,7 @@
 use mathlib.Core.Path.{◌≡◌, refl, sym, ap, ap₂, subst, ◌∙◌}
 use mathlib.Core.Bool.{Bool, true, false}
 use mathlib.Core.List.{List, [], ◌∷◌, ◌++◌}
-use Prim.Native.Nat.{ℕ, zero, suc, ◌+◌, ◌-◌, ◌≤◌}
+use Prim.Native.Nat.{ℕ, zero, suc, ◌+◌, ◌≤◌}
 use native.Mathlib.Omega.{arith}
 use borrow.Author.Tests.{ltb-false}
 use Rattle.std.specs.Prelude.{Result, Ok, Err}
@@ -10,7 +10,7 @@ use lib.ListN.{length, drop, replicate}
 use lib.Seq.{drop-nil}
 use lib.Dec.{ltb}
 use Rattle.listing.specs.Limits.{NODES}
-use Rattle.listing.specs.Bytes.{byte, count_n}
+use Rattle.listing.specs.Bytes.{count_n}
 use Rattle.listing.specs.Rules.{Refusal, passed, refused, first_of}
 use Rattle.listing.specs.Answer.{Answer, refusal}
 use Rattle.listing.specs.declared.reason.Reason.{Reason}

@@ -114,11 +114,13 @@ pub fn told(
             line.words(robust);
             line.end
         }
-        Ok(Verdict::Open {
-            first,
-            second,
-            count,
-        }) => open(line, first, second, count, chain),
+        Ok(
+            Verdict::Open {
+                first,
+                second,
+                count,
+            },
+        ) => open(line, first, second, count, chain),
         Err(reason) => refused(line, reason),
     }
 }

@@ -1,7 +1,7 @@
 -- What the search leaves of `say::line::pairs`.
 use mathlib.Core.Path.{◌≡◌, refl, ap₂, ◌∙◌}
 use mathlib.Core.List.{List, ◌++◌}
-use Prim.Native.Nat.{ℕ, ◌/◌, ◌*◌, ◌≤◌}
+use Prim.Native.Nat.{ℕ, ◌/◌}
 use lib.ListN.{length}
 use Rattle.std.specs.Iterator.Adapters.{take_count, take_source}
 use Rattle.std.specs.Slice.Iter.{iter_rest}
@@ -11,7 +11,7 @@ use Rattle.lines.specs.Text.{pair}
 use Rattle.say.proofs.Pieces.{pairs_in, in_twos, pair_next, pairs_end}
 use Rattle.lines.specs.Inner.Growing.{HasRoom}
 use Rattle.say.specs.Inner.Answers.{pairs_of}
-use Rattle.say.proofs.Room.{pairs_room}
+use Rattle.say.proofs.Sizes.{pairs_room}
 use native.Mathlib.Omega.{arith}
 use Rattle.say.proofs.line.pairs.Goals as goal
 use Rattle.say.proofs.line.pairs.Goals.{After-from-in-loop-a}

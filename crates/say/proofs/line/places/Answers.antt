@@ -6,10 +6,10 @@ use native.Mathlib.Omega.{arith}
 use lib.ListN.{length, drop}
 use Rattle.listing.specs.Bytes.{byte}
 use Rattle.lines.specs.Text.{next}
-use Rattle.lines.proofs.Growing.{none_grown, still_grown, more_grown, all_grown, room_within}
+use Rattle.lines.proofs.Growing.{still_grown, more_grown, all_grown, room_within}
 use Rattle.say.specs.Inner.Answers.{places_of}
 use Rattle.lines.specs.Inner.Growing.{HasRoom}
-use Rattle.say.proofs.Room.{places_room}
+use Rattle.say.proofs.Sizes.{places_room}
 use Rattle.say.proofs.Pieces.{is_place, no_place, place_next, map_ends}
 use Rattle.say.proofs.line.places.Goals as goal
 use Rattle.say.proofs.line.places.Goals.{Start, then-byte-eq1, else-byte-eq1}
@@ -36,10 +36,10 @@ loop-i-preserved c =
     let i = c.loop-i.i in
     let here = place_next map i c.loop-i-test.true in
     elim c.if-byte-eq1.branch [
-      then-byte-eq1 w ↦
+      | then-byte-eq1 w ↦
           rw w.line-is
           (more_grown c.loop-i.invariant (here ∙ ap (λ (t : List ℕ). t ++ behind map i) (is_place i (byte map i) w.if-byte-eq1.true)) w.next.ensures)
-    | else-byte-eq1 w ↦
+      | else-byte-eq1 w ↦
           rw w.line-is
           (still_grown c.loop-i.invariant (here ∙ ap (λ (t : List ℕ). t ++ behind map i) (no_place i (byte map i) w.if-byte-eq1.false)))
     ]
