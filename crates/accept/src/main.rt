@@ -3,12 +3,8 @@
 #![tactic(auto)]
 
 use std::io;
-use std::io::Write;
 
 fn main(rt: HostRuntime) -> io::Result<()> {
     let mut input = acceptance::room();
-    let n = streams::read_full(&mut rt.stdin(), &mut input)?;
-    let mut line = [0u8; say::LINE];
-    let length = acceptance::accept(&input[..n], &mut line);
-    rt.stdout().write_all(&line[..length])
+    say::answer(&mut rt.stdin(), &mut rt.stdout(), &mut input, acceptance::accept)
 }

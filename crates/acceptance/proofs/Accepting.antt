@@ -6,21 +6,24 @@ use native.Mathlib.Decide.{dec_le}
 use native.Mathlib.Omega.{arith}
 use borrow.Rule.Slice.PartMut.{mid_of}
 use lib.ListN.{length, take, drop, length-drop, drop_of_length-le}
+use Rattle.std.specs.Prelude.{Result, Ok}
 use lib.Seq.{take_all, drop-drop}
 use Rattle.listing.specs.Node.{Listing}
 use Rattle.listing.specs.Bytes.{byte}
 use Rattle.listing.specs.Rules.{Refusal, passed, refused, first_of}
 use Rattle.listing.specs.Answer.{filled}
+use Rattle.listing.specs.Ascii.{bytes}
+use Rattle.listing.specs.declared.reason.Reason.{Reason}
 use Rattle.order.specs.Verdict.{Verdict, robust, opened}
-use Rattle.verdict.specs.declared.JudgeAnswer.{JudgeAnswer}
-use Rattle.verdict.specs.declared.JudgeAnswer.TheVariants.{Robust, Open, Refused}
+use Rattle.verdict.specs.declared.Verdict.{Verdict as Decided}
+use Rattle.verdict.specs.declared.Verdict.TheVariants.{Robust, Open}
 use Rattle.verdict.specs.Judging.{question_rules, buffer_rules, CHAIN, judge_says, verdict_says, verdict_bytes, Judging}
 use Rattle.verdict.proofs.Refusing.{buffer_passes}
 use Rattle.verdict.proofs.Promise.{says_once}
 use Rattle.patch.specs.Patching.{patch_rules, judge_patch_rules, JudgePatchPromise}
 use Rattle.patch.proofs.MapRules.{patched_of}
 use Rattle.say.specs.Lines.{refusal_line}
-use Rattle.say.proofs.Judging.{before_passing, verdict_line_lem}
+use Rattle.say.proofs.Judging.{before_passing, refusal_told, verdict_line_lem}
 use Rattle.acceptance.specs.Accept.{map_of, accepted_line, PatchedLine, accept_rules, NamedLine, AcceptLine, AcceptLinePromise}
 use Rattle.acceptance.specs.Inner.Naming.{answer_line, NamedLined}
 
@@ -31,20 +34,20 @@ asked q s map old h =
     ap first_of (sym (append_assoc (question_rules q) (patch_rules s map) (buffer_rules CHAIN old)))
     ∙ before_passing (question_rules q ++ patch_rules s map) (buffer_rules CHAIN old) (buffer_passes CHAIN old h)
 
-verdict_accepted : (v : Verdict) (r : JudgeAnswer) (old new : List ℕ)
+verdict_accepted : (v : Verdict) (r : Result Decided Reason) (old new : List ℕ)
     → judge_says r ≡ verdict_says v → new ≡ filled (verdict_bytes v) old → answer_line r new ≡ accepted_line v
-verdict_accepted robust r old new e w = ap (λ (x : JudgeAnswer). answer_line x new) (says_once r Robust e)
+verdict_accepted robust r old new e w = ap (λ (x : Result Decided Reason). answer_line x new) (says_once r (Ok Robust) e)
 verdict_accepted (opened p rest) r old new e w =
-    let answer = Open p.0 p.1 (length (p ∷ rest)) in
-    ap (λ (x : JudgeAnswer). answer_line x new) (says_once r answer e) ∙ verdict_line_lem (opened p rest) answer old new refl w
+    let answer : Result Decided Reason = Ok (Open p.0 p.1 (length (p ∷ rest))) in
+    ap (λ (x : Result Decided Reason). answer_line x new) (says_once r answer e) ∙ verdict_line_lem (opened p rest) answer old new refl w
 
-patched_line : (f : Refusal) (q : ℕ) (L : Listing) (old new : List ℕ) (r : JudgeAnswer)
+patched_line : (f : Refusal) (q : ℕ) (L : Listing) (old new : List ℕ) (r : Result Decided Reason)
     → Judging f q L old new (judge_says r) → PatchedLine f q L (answer_line r new)
 patched_line passed q L old new r t = (t.verdict, t.judged, verdict_accepted t.verdict r old new t.says t.writes)
-patched_line (refused k p) q L old new r h = ap (λ (x : JudgeAnswer). answer_line x new) (says_once r (Refused k p) h.0)
+patched_line (refused k p) q L old new r h = refusal_told (bytes "ACCEPTED\n") k p r new h.0
 
 -- OF A QUESTION, A LISTING AND THE NODES NAMED
-pub named_line : (q : ℕ) (s ks map old new : List ℕ) (r : JudgeAnswer)
+pub named_line : (q : ℕ) (s ks map old new : List ℕ) (r : Result Decided Reason)
     → map ≡ map_of s ks → CHAIN ≤ length old → JudgePatchPromise q s map old new (judge_says r) → NamedLine q s ks (answer_line r new)
 named_line q s ks map old new r e h p =
     let of = subst (λ (f : Refusal). Judging f q (patched_of s map) old new (judge_says r)) (asked q s map old h) p in

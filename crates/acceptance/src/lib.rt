@@ -1,7 +1,7 @@
 // The acceptor's line: a patch drawn up by anyone, given as the nodes that get a fence after them, is judged.
 #![tactic(auto)]
 
-ghost use Rattle.std.specs.Prelude.{◌≡◌, [], ◌∷◌, ◌≤◌, ◌<◌, min, length};
+ghost use Rattle.std.specs.Prelude.{◌≡◌, [], ◌≤◌, ◌<◌, length};
 ghost use Rattle.io.specs.Counts.{IsPrefixLen};
 ghost use Rattle.listing.specs.Bytes.{byte};
 ghost use Rattle.acceptance.specs.Accept.{map_length, AcceptLinePromise};
@@ -30,31 +30,7 @@ pub fn room() -> [u8; INPUT]
 fn byte_at(bytes: &[u8], i: usize) -> usize
     ensures { (result ≡ byte bytes.now i) × (result < 256) }
 {
-    if bytes.len() <= i {
-        return 0;
-    }
-    listing::wide(bytes[i])
-}
-
-// A place, or the end where that comes first.
-fn within(at: usize, end: usize) -> usize
-    ensures { result ≡ min at end }
-{
-    if end < at {
-        return end;
-    }
-    at
-}
-
-// A map's length, made to reach one node.
-fn reaching(length: usize, node: usize) -> usize
-    requires { (length ≤ 256) × (node < 256) }
-    ensures { (result ≡ map_length length (node ∷ [])) × (result ≤ 256) }
-{
-    if node < length {
-        return length;
-    }
-    node + 1
+    bytes.get(i).map_or(0, |byte| usize::from(*byte))
 }
 
 // The length of a map of n nodes, made to reach all that are named.
@@ -63,8 +39,8 @@ fn map_length(n: usize, nodes: &[u8]) -> usize
     ensures { (result ≡ map_length n nodes.now) × (result ≤ 256) }
 {
     let mut length = n;
-    for i in 0..nodes.len() {
-        length = reaching(length, listing::wide(nodes[i]));
+    for node in nodes {
+        length = length.max(usize::from(*node) + 1);
     }
     length
 }
@@ -74,9 +50,8 @@ fn draw(nodes: &[u8], map: &mut [u8])
     requires { (256 ≤ length map.old) × Drawn [] map.old }
     ensures { Drawn nodes.now map.new }
 {
-    for i in 0..nodes.len() {
-        let node = listing::wide(nodes[i]);
-        map[node] = 1;
+    for node in nodes {
+        map[usize::from(*node)] = 1;
     }
 }
 
@@ -98,11 +73,10 @@ pub fn accept(input: &[u8], line: &mut [u8; LINE]) -> usize
     ensures accept_line_promise { AcceptLinePromise input.now line.old line.new result }
     ensures prefix_len { IsPrefixLen result line.new }
 {
-    if input.len() == 0 {
+    let Some(question) = input.first() else {
         return say::unasked(line);
-    }
-    let question = listing::wide(input[0]) as u64;
-    let from = within(2, input.len());
-    let to = within(from + byte_at(input, 1), input.len());
-    judge_named(question, &input[from..to], &input[to..], line)
+    };
+    let from = input.len().min(2);
+    let to = input.len().min(from + byte_at(input, 1));
+    judge_named(u64::from(*question), &input[from..to], &input[to..], line)
 }

@@ -25,6 +25,7 @@ fn clear_rows(question: Question, fence: Kind, listing: &Listing, f: &mut Relati
 }
 
 // Keeps of row a what f has there, and what others has.
+#[tactic(auto, using(crate::proofs::Kept::row_kept))]
 fn keep_row(others: &Set, f: &Relation, c: &mut Relation, a: usize)
     requires { a < 128 }
     ensures { RowThinned (KeptIn others.now f.now a) c.old c.new a }

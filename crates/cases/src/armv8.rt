@@ -1,22 +1,16 @@
 // Listings of version 2: what ARMv8 keeps in order, and between which ends its fences bar.
-use crate::judging::case;
-use std::io;
-use std::io::Write;
-
 // A message and its mark, and who waits for it: with a release and an acquire, and with a store fence and a load fence.
-fn messages<W: Write>(to: &mut W) -> io::Result<()> {
-    case(
-        to,
-        b"released and acquired",
+pub const MESSAGES: [(&str, &[u8]); 2] = [
+    (
+        "released and acquired",
         b"ORD\x02\x00\x02\x04\
           \x00\x02\x01\x00\x01\xFF\
           \x00\x06\x02\x00\xFF\xFF\
           \x01\x05\x02\x00\x03\xFF\
           \x01\x01\x01\x00\xFF\xFF",
-    )?;
-    case(
-        to,
-        b"a store fence, a load fence",
+    ),
+    (
+        "a store fence, a load fence",
         b"ORD\x02\x00\x02\x06\
           \x00\x02\x01\x00\x01\xFF\
           \x00\x08\x00\x00\x02\xFF\
@@ -24,32 +18,25 @@ fn messages<W: Write>(to: &mut W) -> io::Result<()> {
           \x01\x01\x02\x00\x04\xFF\
           \x01\x07\x00\x00\x05\xFF\
           \x01\x01\x01\x00\xFF\xFF",
-    )
-}
+    ),
+];
 
 // Each routine releases one cell, then acquires the other, with acquire_pc too.
-fn buffers<W: Write>(to: &mut W) -> io::Result<()> {
-    case(
-        to,
-        b"release then acquire",
+pub const BUFFERS: [(&str, &[u8]); 2] = [
+    (
+        "release then acquire",
         b"ORD\x02\x00\x02\x04\
           \x00\x06\x01\x00\x01\xFF\
           \x00\x05\x02\x00\xFF\xFF\
           \x01\x06\x02\x00\x03\xFF\
           \x01\x05\x01\x00\xFF\xFF",
-    )?;
-    case(
-        to,
-        b"release then acquirePC",
+    ),
+    (
+        "release then acquirePC",
         b"ORD\x02\x00\x02\x04\
           \x00\x06\x01\x00\x01\xFF\
           \x00\x09\x02\x00\xFF\xFF\
           \x01\x06\x02\x00\x03\xFF\
           \x01\x09\x01\x00\xFF\xFF",
-    )
-}
-
-pub fn armv8<W: Write>(to: &mut W) -> io::Result<()> {
-    messages(to)?;
-    buffers(to)
-}
+    ),
+];

@@ -1,6 +1,7 @@
 -- The rounds of a breadth-first search, one distance a round, give the least lengths of paths.
 use mathlib.Core.Path.{◌≡◌, ap, ◌∙◌}
 use mathlib.Core.Logic.{◌⊎◌, inl, inr, ⊎_elim}
+use mathlib.Core.Bool.{Bool, true, false}
 use mathlib.Core.List.{List}
 use Prim.Native.Nat.{ℕ, suc, ◌+◌, ◌≤◌, ◌<◌}
 use native.Mathlib.Omega.{arith}
@@ -40,7 +41,7 @@ level_start n w t d hn g =
     goal x hx i e = (omega arith, rw e (here i), omega (arith, g.fewer x (omega arith) (λ z. omega arith)))
 
 -- a round
-module _ (n : ℕ) (w t d e : List ℕ) (r c : ℕ) (l : Level n w t d r) (g : Swept (Hits n w d r) 0 n d e r c) where
+module _ (n : ℕ) (w t d e : List ℕ) (r : ℕ) (found : Bool) (l : Level n w t d r) (g : Swept (Hits n w d r) 0 n d e r found) where
   reached : (x : ℕ) → x < n → (get_or d x 0 ≡ unreached → ⊥) → Reached n w t d r x
   reached x hx ne = ⊎_elim (λ q. absurd (ne q)) (λ q. q) (l.ok x hx)
 
@@ -84,30 +85,30 @@ module _ (n : ℕ) (w t d e : List ℕ) (r c : ℕ) (l : Level n w t d r) (g : S
           let a = l.near u.0 u.1.1 r (omega arith) u.2 in
           ⊎_elim (λ q. let b = q.0 in omega (arith, kept x hx q.1)) (λ q. let b = q.1 in omega arith) (stepped x u.0 hx u.1 a)
 
-  ok_more : 0 < c → (x : ℕ) → x < n → (get_or e x 0 ≡ unreached) ⊎ Reached n w t e (r + 1) x
+  ok_more : found ≡ true → (x : ℕ) → x < n → (get_or e x 0 ≡ unreached) ⊎ Reached n w t e (r + 1) x
   ok_more pos x hx = by (g.fate x (omega arith) hx)
     where
       by : Fate (get_or d x 0) (get_or e x 0) r (Hits n w d r x) → (get_or e x 0 ≡ unreached) ⊎ Reached n w t e (r + 1) x
       by (had ne k) =
           let a = reached x hx ne in
           let a₀ = a.0 in
-          inr (omega arith, rw k a.1, omega (arith, a.2, g.count))
+          inr (omega arith, rw k a.1, omega (arith, a.2, g.fewer pos))
       by (without p k ne) = inl k
       by (given p k i) =
           let q : get_or d i.0 0 ≡ r = i.2 in
           let a = reached_low i.0 i.1.1 (omega arith) in
-          inr (omega arith, rw (k, add-one) (step i.1 (rw q at a.1)), omega (arith, a.2, g.count))
+          inr (omega arith, rw (k, add-one) (step i.1 (rw q at a.1)), omega (arith, a.2, g.fewer pos))
 
-  pub level_more : 0 < c → Level n w t e (r + 1)
+  pub level_more : found ≡ true → Level n w t e (r + 1)
   level_more pos =
       record {
         ok = ok_more pos;
         near = near_more;
         beyond = λ x h hx. g.same x (λ a b. omega arith) ∙ l.beyond x h hx;
-        room = omega (arith, l.room, g.count);
+        room = omega (arith, l.room, g.fewer pos);
       }
 
-  module _ (z : c ≡ 0) where
+  module _ (z : found ≡ false) where
     -- where a round gave nothing, every node with a path has its distance
     reach_all : {x m : ℕ} → PathTo n w t x m → x < n → (get_or d x 0 ≤ m) × (get_or d x 0 ≤ r)
     reach_all {x} (here i) hx = let a = l.near x hx 0 (omega arith) (here i) in (a, omega arith)

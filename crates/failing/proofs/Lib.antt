@@ -1,2 +1,3 @@
 pub mod Needing
 pub mod Searching
+pub mod Seconds

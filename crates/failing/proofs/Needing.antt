@@ -8,14 +8,29 @@ use Rattle.listing.specs.Bytes.{count_n, nodes_of}
 use Rattle.listing.specs.Node.{Listing}
 use Rattle.order.specs.Walks.{kind_at}
 use Rattle.order.specs.Chains.{SurelyMeet, IsPair}
-use Rattle.order.specs.Need.{question, Entry, leave_unless_rmw, entry, Says, Needs, RmwInside}
-use Rattle.order.specs.Inner.Table.{number_of}
+use Rattle.order.specs.declared.question.Question.{Question}
+use Rattle.order.specs.declared.question.Question.TheVariants.{ScOnX86, ScOnArmv7, X86OnArmv7, Armv8OnArmv7, ScOnArmv8, X86OnArmv8}
+use Rattle.order.specs.Inner.Asking.{asked}
+use Rattle.order.specs.Need.{Asked, question, Entry, leave_unless_rmw, entry, Says, Needs, RmwInside}
 use Rattle.order.specs.Verdict.{Fails}
-use Rattle.order.proofs.Entries.{number_leave, number_need, number_unless, number_below}
 use Rattle.rows.specs.Inner.Rows.{Has, Tells, Holds}
 use Rattle.suspects.specs.Inner.Suspect.{Suspect, Exchanged}
-use Rattle.failing.specs.Inner.Failing.{Prepared}
+use Rattle.failing.specs.Inner.Failing.{AskedOf, Prepared}
 use Rattle.rows.proofs.Tells.{tells_yes, told_map}
+
+-- a question can be asked
+pub asked_in : (q : Question) → Asked (asked q)
+asked_in ScOnX86 = record { least = omega arith; most = omega arith }
+asked_in ScOnArmv7 = record { least = omega arith; most = omega arith }
+asked_in X86OnArmv7 = record { least = omega arith; most = omega arith }
+asked_in Armv8OnArmv7 = record { least = omega arith; most = omega arith }
+asked_in ScOnArmv8 = record { least = omega arith; most = omega arith }
+asked_in X86OnArmv8 = record { least = omega arith; most = omega arith }
+
+-- what holds of a search's fields holds of what a contract sees of it
+pub seen : {q : ℕ} {bytes c i : List ℕ} {v : AskedOf} → record { question = q; bytes = bytes } ≡ v → Prepared q bytes c i
+    → Prepared v.question v.bytes c i
+seen {c = c} {i = i} e p = subst (λ (v : AskedOf). Prepared v.question v.bytes c i) e p
 
 -- a suspect is a pair
 pub suspect_pair : (q : ℕ) (L : Listing) (a b : ℕ) → Suspect q L a b → IsPair L (a, b)
@@ -38,36 +53,19 @@ pub suspected : {q : ℕ} {bytes c i : List ℕ} → Prepared q bytes c i → (a
     → (r : Bool) → not r ≡ false → Tells r (Has c a b) → Suspect q (nodes_of bytes) a b
 suspected {q} {bytes} {c} {i} p a b l r e t = (p.suspects.sound a b (omega (arith, p.whole.few)) (tells_yes (Has c a b) r e t)).2
 
--- the table's entry of a pair, and its number
+-- the table's entry of a pair
 abbrev entry_at : ℕ → Listing → ℕ → ℕ → Entry
 entry_at q L a b = entry (question q) (kind_at L a) (kind_at L b)
-
-abbrev pub number : ℕ → Listing → ℕ → ℕ → ℕ
-number q L a b = number_of (entry_at q L a b)
 
 -- what an entry says of a pair
 abbrev SaysOf : Listing → ℕ → ℕ → Entry → Type 0
 SaysOf L a b e = Says e (RmwInside L a b)
 
-module _ (q : ℕ) (L : Listing) (a b : ℕ) (s : Suspect q L a b) where
-  pair : IsPair L (a, b)
-  pair = suspect_pair q L a b s
-
-  pub left_out : number q L a b ≡ 0 → Fails q L a b → ⊥
-  left_out h f = subst (SaysOf L a b) (number_leave (entry_at q L a b) h) f.needs
-
-  module _ (apart : SurelyMeet L a b → ⊥) where
-    pub needed : number q L a b ≡ 1 → Fails q L a b
-    needed h = suspect_fails q L a b s (subst (SaysOf L a b) (sym (number_need (entry_at q L a b) h)) tt) apart
-
-    -- THE ROWS OF AN RMW INSIDE DECIDE where the table leaves it to them
-    pub unless_inside : (i : List ℕ) (n : ℕ) → n ≤ 128 → a < n → b < n → Holds i n (Exchanged L) → (r : Bool)
-        → (number q L a b ≡ 0 → ⊥) → (number q L a b ≡ 1 → ⊥)
-        → Tells r (Has i a b) → Tells r (Fails q L a b)
-    unless_inside i n small la lb hi r nz n1 t =
-        told_map (Has i a b) (Fails q L a b) r
-        (λ h. suspect_fails q L a b s (subst (SaysOf L a b) (sym e) (hi.sound a b (omega arith) h).2.2) apart)
-        (λ f. hi.whole a b la lb (pair.from, pair.to, subst (SaysOf L a b) e f.needs)) t
-      where
-        e : entry_at q L a b ≡ leave_unless_rmw
-        e = number_unless (entry_at q L a b) (omega (arith, number_below (entry_at q L a b)))
+-- THE ROWS OF AN RMW INSIDE DECIDE where the table leaves it to them
+pub unless_inside : (q : ℕ) (L : Listing) (a b : ℕ) → Suspect q L a b → (SurelyMeet L a b → ⊥) → (i : List ℕ) (n : ℕ) → n ≤ 128
+    → a < n → b < n → Holds i n (Exchanged L) → leave_unless_rmw ≡ entry_at q L a b → (r : Bool) → Tells r (Has i a b) → Tells r (Fails q L a b)
+unless_inside q L a b s apart i n small la lb hi e r t =
+    let pair = suspect_pair q L a b s in
+    told_map (Has i a b) (Fails q L a b) r
+    (λ h. suspect_fails q L a b s (subst (SaysOf L a b) e (hi.sound a b (omega arith) h).2.2) apart)
+    (λ f. hi.whole a b la lb (pair.from, pair.to, subst (SaysOf L a b) (sym e) f.needs)) t

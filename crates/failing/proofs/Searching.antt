@@ -1,19 +1,19 @@
 -- The search for failing pairs, from one second node to the next and from one first node to the next.
-use mathlib.Core.Path.{◌≡◌, refl}
+use mathlib.Core.Path.{◌≡◌}
 use mathlib.Core.Logic.{inl, inr}
+use mathlib.Core.Bool.{Bool, true, false, not}
+use Rattle.std.specs.Prelude.{Option, Some, None, is_some}
 use Prim.Native.Nat.{ℕ, ◌+◌, ◌≤◌, ◌<◌}
 use native.Mathlib.Omega.{arith}
 use native.Mathlib.Decide.{dec_lt}
-use lib.Dec.{eqb, eqb→eq}
 use lib.ListN.{length}
 use Rattle.listing.specs.Node.{Listing}
 use Rattle.order.specs.Verdict.{Fails, Robust, Before, First}
 use Rattle.order.proofs.Laws.{access_in}
-use Rattle.listing.proofs.Bools.{eq→eqb}
 use Rattle.rows.specs.Inner.Rows.{Tells}
 use Rattle.rows.specs.Inner.Least.{Least}
-use Rattle.rows.proofs.Tells.{tells, told_map}
-use Rattle.failing.specs.Inner.Failing.{NextFailing}
+use Rattle.failing.specs.Inner.Failing.{NextFailing, NextIfAny}
+use Rattle.failing.specs.declared.search.Found.{Found}
 
 -- the next first node's pairs come no sooner than this one's
 pub past_first : (x y a b : ℕ) → (Before (x, y) (a, b) → ⊥) → Before (x + 1, 0) (a, b) → ⊥
@@ -64,33 +64,20 @@ module _ (q : ℕ) (L : Listing) where
               none_till c d f from (inr (e, omega (arith, (failing_in c d f).1)))
       next_first size ls c d f from (inr h) = absurd (omega arith)
 
-    -- no pair fails
-    pub none_found : (n x y : ℕ) → NoneBefore x y → x ≡ n → NextFailing q L n a b n 0
-    none_found n x y none e = record { low = omega arith; here = λ l. absurd (omega arith); from = λ l. absurd (omega arith); none = past }
-      where
-        past : NoneBefore n 0
-        past c d f from (inl h) = none c d f from (inl (omega arith))
-        past c d f from (inr h) = absurd (omega arith)
-
   -- FROM THE FIRST PAIR ON: the first failing pair is found, and none exactly if the listing is robust
-  module _ (n x y : ℕ) (size : n ≡ length L) (next : NextFailing q L n 0 0 x y) where
+  module _ (n : ℕ) (size : n ≡ length L) where
     from_start : (a b : ℕ) → Before (a, b) (0, 0) → ⊥
     from_start a b (inl h) = omega arith
     from_start a b (inr h) = omega arith
 
-    pub first_found : x < n → First q L (x, y)
-    first_found l = record { fails = next.here l; first = λ a b f. next.none a b f (from_start a b) }
+    pub first_found : (p : Found) → NextIfAny q L n 0 0 (Some p) → First q L (p.first, p.second)
+    first_found p h = record { fails = h.1.here h.0; first = λ a b f. h.1.none a b f (from_start a b) }
 
-    pub none_robust : x ≡ n → Robust q L
-    none_robust e a b f = next.none a b f (from_start a b) (inl (omega (arith, (failing_in a b f).0)))
+    pub none_robust : NextIfAny q L n 0 0 None → Robust q L
+    none_robust h a b f = h.none a b f (from_start a b) (inl (omega (arith, (failing_in a b f).0)))
 
-    robust_none : Robust q L → x ≡ n
-    robust_none h = by (dec_lt x n)
-      where
-        by : Dec (x < n) → x ≡ n
-        by (yes l) = absurd (h x y (next.here l))
-        by (no l) = omega (arith, next.low)
-
-    pub robust_told : Tells (eqb x n) (Robust q L)
-    robust_told =
-        told_map _ _ (eqb x n) (λ t. none_robust (eqb→eq x n t)) (λ h. eq→eqb x n (robust_none h)) (tells (eqb x n) refl)
+    pub robust_told : (r : Option Found) (none : Bool) → is_some r ≡ not none → NextIfAny q L n 0 0 r → Tells none (Robust q L)
+    robust_told (Some p) true e h = cc
+    robust_told (Some p) false e h = λ r. r p.first p.second (h.1.here h.0)
+    robust_told None true e h = none_robust h
+    robust_told None false e h = cc

@@ -1,11 +1,13 @@
 -- The marks of a map, one by one.
 use mathlib.Core.Path.{◌≡◌, refl, sym, ap, ◌∙◌}
-use mathlib.Core.Bool.{Bool, true, false}
+use mathlib.Core.Bool.{Bool, true, false, cond}
 use mathlib.Core.List.{List, ◌∷◌}
 use Prim.Native.Nat.{ℕ, ◌+◌, ◌≤◌, ◌<◌}
 use native.Mathlib.Omega.{arith}
 use native.Mathlib.Numerals.{add-one}
 use lib.ListN.{length, get_or, drop, length-map, drop_of_length-le, get_or-map}
+use Rattle.std.specs.List.{count_by}
+use Rattle.std.proofs.lemmas.List.Recursion.{is_count_by}
 use Rattle.listing.specs.Bytes.{nodes_of}
 use Rattle.listing.proofs.Nodes.{nodes_length}
 use Rattle.listing.proofs.Stores.{next}
@@ -21,6 +23,15 @@ marks_length bytes = length-map bytes is_mark
 pub marks_at : (bytes : List ℕ) (i : ℕ) → marked (marks_of bytes) i ≡ is_mark (get_or bytes i 0)
 unfolding marks_of
 marks_at bytes i = get_or-map is_mark bytes i 0
+
+-- a map has as many places as bytes that are marks
+pub places_counted : (bytes : List ℕ) → places (marks_of bytes) ≡ count_by is_mark bytes
+unfolding marks_of
+places_counted bytes = is_count_by (λ (xs : List ℕ). places (marks_of xs)) is_mark refl (λ x xs. counts (is_mark x) (marks_of xs)) bytes
+  where
+    counts : (b : Bool) (ms : Marks) → places (b ∷ ms) ≡ cond b (1 + places ms) (places ms)
+    counts true ms = omega arith
+    counts false ms = refl
 
 places_step : (b : Bool) (ms : Marks) (k : ℕ) → next_after b k + places ms ≡ k + places (b ∷ ms)
 places_step true ms k = omega arith

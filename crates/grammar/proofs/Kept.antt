@@ -1,44 +1,21 @@
--- The numbers that the readers keep, where a word's own are stored: they are the word looked at, and no node is passed.
-use mathlib.Core.Path.{◌≡◌, ◌∙◌}
+-- A reader keeps its text: what is said of a later place in it is said of the text that it had.
+use mathlib.Core.Path.{◌≡◌, subst}
 use mathlib.Core.List.{List}
 use Prim.Native.Nat.{ℕ}
-use native.Mathlib.Omega.{arith}
-use lib.ListN.{length, get_or, set, length-set}
-use lib.Seq.{get_or-set_same, get_or-set_other}
-use Rattle.words.specs.Inner.Looking.{Ahead}
-use Rattle.words.specs.declared.Found.{Found}
-use Rattle.grammar.specs.Inner.Reader.{start_of, end_of, said_of, Looked}
+use Rattle.std.specs.Prelude.{Result}
+use Rattle.words.specs.declared.Word.{Word as Said}
+use Rattle.grammar.specs.declared.reader.Misplaced.{Misplaced}
+use Rattle.grammar.specs.Inner.Reader.{Cursor, Looked, Met, ItemRead, BlockRead}
 
-module _ (at : List ℕ) (w : Found) (four : length at ≡ 4) where
-  abbrev placed : List ℕ
-  placed = set (set at 0 w.start) 1 w.end
+pub looked : {s : List ℕ} {at new : Cursor} {w : Said} → at.text ≡ s → Looked at.text at new w → Looked s at new w
+looked {at = at} {new} {w} kept = subst (λ (t : List ℕ). Looked t at new w) kept
 
-  abbrev kept : List ℕ
-  kept = set placed 3 w.value
+module _ (s : List ℕ) (at new : Cursor) (kept : at.text ≡ s) (r : Result Unit Misplaced) where
+  pub met : (P : Said → Type 0) → Met P at.text at new r → Met P s at new r
+  met P = subst (λ (t : List ℕ). Met P t at new r) kept
 
-  -- the number that the word says has a place of its own
-  beside : (i : ℕ) → (i ≡ 3 → ⊥) → get_or kept i 0 ≡ get_or placed i 0
-  beside i h = get_or-set_other placed 3 i w.value 0 h
+  pub item_read : (w : Said) (d : ℕ) → ItemRead at.text w d at new r → ItemRead s w d at new r
+  item_read w d = subst (λ (t : List ℕ). ItemRead t w d at new r) kept
 
-  starts : start_of kept ≡ w.start
-  starts =
-      beside 0 (λ e. omega arith)
-      ∙ get_or-set_other (set at 0 w.start) 1 0 w.end 0 (λ e. omega arith)
-      ∙ get_or-set_same at 0 _ 0 (omega arith)
-
-  ends : end_of kept ≡ w.end
-  ends = beside 1 (λ e. omega arith) ∙ get_or-set_same (set at 0 w.start) 1 _ 0 (simp length-set (omega arith))
-
-  says : said_of kept ≡ w.value
-  says = get_or-set_same placed 3 _ 0 (simp length-set (omega arith))
-
-  -- THE WORD AHEAD IS THE ONE LOOKED AT
-  pub looked : (s : List ℕ) → Ahead s (end_of at) w → Looked s at kept w.code
-  looked s h =
-      record {
-        ahead = rw (starts, ends, says) h;
-        passed =
-            beside 2 (λ e. omega arith)
-            ∙ get_or-set_other (set at 0 w.start) 1 2 _ 0 (λ e. omega arith)
-            ∙ get_or-set_other at 0 2 _ 0 (λ e. omega arith);
-      }
+  pub block_read : (d : ℕ) → BlockRead at.text d at new r → BlockRead s d at new r
+  block_read d = subst (λ (t : List ℕ). BlockRead t d at new r) kept

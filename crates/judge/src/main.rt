@@ -2,12 +2,8 @@
 #![tactic(auto)]
 
 use std::io;
-use std::io::Write;
 
 fn main(rt: HostRuntime) -> io::Result<()> {
     let mut input = say::room();
-    let n = streams::read_full(&mut rt.stdin(), &mut input)?;
-    let mut line = [0u8; say::LINE];
-    let length = say::judge(&input[..n], &mut line);
-    rt.stdout().write_all(&line[..length])
+    say::answer(&mut rt.stdin(), &mut rt.stdout(), &mut input, say::judge)
 }

@@ -1,7 +1,6 @@
 // Text put into a lent buffer, piece after piece.
 #![tactic(auto)]
 
-ghost use Rattle.std.specs.Prelude.{◌≡◌};
 ghost use Rattle.lines.specs.Text.{decimal};
 ghost use Rattle.lines.specs.Text.{next as text_next};
 ghost use Rattle.lines.specs.Text.{pair as text_pair};
@@ -14,13 +13,11 @@ pub struct Line<'a> {
 }
 
 impl<'a> Line<'a> {
-    ghost use Rattle.lines.specs.Inner.Growing.{HasRoom, Grows};
+    ghost use Rattle.lines.specs.Inner.Growing.{Starts, HasRoom, Grows};
 
     // Nothing is put yet.
     pub fn new(buffer: &'a mut [u8]) -> Self
-        ensures same { result.buffer.ghost_name ≡ buffer.entry.ghost_name }
-        ensures bytes { result.buffer.now ≡ buffer.old }
-        ensures start { result.end ≡ 0 }
+        ensures { Starts buffer.entry result }
     {
         Line { buffer, end: 0 }
     }

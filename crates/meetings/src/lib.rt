@@ -14,6 +14,7 @@ pub use nodes::gather;
 use rows::{Relation, Set};
 
 // All that the rows of m have for some node of u.
+#[tactic(auto, using(crate::proofs::Living::from_more, crate::proofs::Living::from_skip))]
 fn pour_all(n: usize, u: &Set, m: &Relation) -> Set
     requires { (n ≤ 128) × Low n m.now }
     ensures { Members result n (FromSome u.now m.now n) }
@@ -28,6 +29,7 @@ fn pour_all(n: usize, u: &Set, m: &Relation) -> Set
 }
 
 // Those of the accesses that overlap some writer, by the rows m.
+#[tactic(auto, using(crate::proofs::Living::among_accesses))]
 fn live_accesses(n: usize, accesses: &Set, writers: &Set, m: &Relation) -> Set
     requires { (n ≤ 128) × Low n m.now }
     ensures { Members result n (LiveAmong accesses.now writers.now m.now n) }

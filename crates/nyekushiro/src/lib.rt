@@ -4,18 +4,18 @@
 ghost use Rattle.std.specs.Prelude.{◌≡◌};
 ghost use Rattle.listing.specs.Form.{read_says};
 ghost use Rattle.listing.specs.Answer as paper;
+ghost use Rattle.listing.specs.Reason.{refused_for};
 ghost use Rattle.reader.specs.Read.{read_of};
 ghost use Rattle.verdict.specs.Judging.{judge_says, JudgePromise};
-ghost use Rattle.patch.specs.Patching.{JudgePatchPromise, propose_says, ProposePromise, write_says, WritePromise};
-ghost use Rattle.text.specs.Typing.{typed_says, Typed};
+ghost use Rattle.patch.specs.Patching.{JudgePatchPromise, number_says, ProposePromise, WritePromise};
+ghost use Rattle.text.specs.Typing.{Typed};
 ghost use Rattle.nyekushiro.specs.Exported.{said};
 
-use listing::ReadAnswer;
-use patch::{ProposeAnswer, WriteAnswer};
-use text::TypedAnswer;
-use verdict::JudgeAnswer;
+use listing::{Listing, Reason};
+use verdict::Verdict;
 
 // kind 0: done, or ROBUST; 1: OPEN; 2: REFUSED, with first the number and second the place.
+// The C interface: four numbers in this order, and no enum (include/nyekushiro.h).
 #[repr(C)]
 #[derive(Drop)]
 pub struct Answer {
@@ -47,64 +47,57 @@ fn open(first: usize, second: usize, count: usize) -> Answer
     }
 }
 
-fn refused(number: u8, place: usize) -> Answer
-    ensures { said result ≡ paper.refusal number place }
-{
-    Answer {
-        kind: 2,
-        first: number as u64,
-        second: place as u64,
-        count: 0,
+impl From<Reason> for Answer {
+    ghost from_gives = { λ reason answer. said answer ≡ refused_for reason };
+
+    fn from(reason: Reason) -> Answer {
+        Answer {
+            kind: 2,
+            first: u64::from(reason.number()),
+            second: reason.place() as u64,
+            count: 0,
+        }
     }
 }
 
-fn of_read(answer: ReadAnswer) -> Answer
-    ensures { said result ≡ read_says answer }
-{
-    match answer {
-        ReadAnswer::Good(l) => done(l.nodes, l.routines, 0),
-        ReadAnswer::Refused { number, place } => refused(number, place),
+// What reading answers.
+impl From<Result<Listing<'_>, Reason>> for Answer {
+    ghost from_gives = { λ read answer. said answer ≡ read_says read };
+
+    fn from(read: Result<Listing<'_>, Reason>) -> Answer {
+        match read {
+            Ok(listing) => done(listing.nodes(), usize::from(listing.routines()), 0),
+            Err(reason) => Answer::from(reason),
+        }
     }
 }
 
-fn of_judge(answer: JudgeAnswer) -> Answer
-    ensures { said result ≡ judge_says answer }
-{
-    match answer {
-        JudgeAnswer::Robust => done(0, 0, 0),
-        JudgeAnswer::Open {
-            first,
-            second,
-            count,
-        } => open(first, second, count),
-        JudgeAnswer::Refused { number, place } => refused(number, place),
+// What judging answers.
+impl From<Result<Verdict, Reason>> for Answer {
+    ghost from_gives = { λ judged answer. said answer ≡ judge_says judged };
+
+    fn from(judged: Result<Verdict, Reason>) -> Answer {
+        match judged {
+            Ok(Verdict::Robust) => done(0, 0, 0),
+            Ok(Verdict::Open {
+                first,
+                second,
+                count,
+            }) => open(first, second, count),
+            Err(reason) => Answer::from(reason),
+        }
     }
 }
 
-fn of_propose(answer: ProposeAnswer) -> Answer
-    ensures { said result ≡ propose_says answer }
-{
-    match answer {
-        ProposeAnswer::Proposed { places } => done(0, 0, places),
-        ProposeAnswer::Refused { number, place } => refused(number, place),
-    }
-}
+// What counts or measures what it wrote.
+impl From<Result<usize, Reason>> for Answer {
+    ghost from_gives = { λ written answer. said answer ≡ number_says written };
 
-fn of_write(answer: WriteAnswer) -> Answer
-    ensures { said result ≡ write_says answer }
-{
-    match answer {
-        WriteAnswer::Written { length } => done(0, 0, length),
-        WriteAnswer::Refused { number, place } => refused(number, place),
-    }
-}
-
-fn of_typed(answer: TypedAnswer) -> Answer
-    ensures { said result ≡ typed_says answer }
-{
-    match answer {
-        TypedAnswer::Written(length) => done(0, 0, length),
-        TypedAnswer::Refused { number, place } => refused(number, place),
+    fn from(written: Result<usize, Reason>) -> Answer {
+        match written {
+            Ok(count) => done(0, 0, count),
+            Err(reason) => Answer::from(reason),
+        }
     }
 }
 
@@ -112,14 +105,14 @@ fn of_typed(answer: TypedAnswer) -> Answer
 pub extern "C" fn nyekushiro_read(bytes: &[u8]) -> Answer
     ensures { said result ≡ read_of bytes.now }
 {
-    of_read(reader::read(bytes))
+    Answer::from(reader::read(bytes))
 }
 
 #[unsafe(no_mangle)]
 pub extern "C" fn nyekushiro_judge(question: u64, bytes: &[u8], chain: &mut [u8]) -> Answer
     ensures { JudgePromise question bytes.now chain.old chain.new (said result) }
 {
-    of_judge(verdict::judge(question, bytes, chain))
+    Answer::from(verdict::judge(question, bytes, chain))
 }
 
 #[unsafe(no_mangle)]
@@ -131,26 +124,26 @@ pub extern "C" fn nyekushiro_judge_patch(
 ) -> Answer
     ensures { JudgePatchPromise question bytes.now map.now chain.old chain.new (said result) }
 {
-    of_judge(patch::judge_patch(question, bytes, map, chain))
+    Answer::from(patch::judge_patch(question, bytes, map, chain))
 }
 
 #[unsafe(no_mangle)]
 pub extern "C" fn nyekushiro_propose(question: u64, bytes: &[u8], map: &mut [u8]) -> Answer
     ensures { ProposePromise question bytes.now map.old map.new (said result) }
 {
-    of_propose(proposal::propose(question, bytes, map))
+    Answer::from(proposal::propose(question, bytes, map))
 }
 
 #[unsafe(no_mangle)]
 pub extern "C" fn nyekushiro_write(bytes: &[u8], map: &[u8], out: &mut [u8]) -> Answer
     ensures { WritePromise bytes.now map.now out.old out.new (said result) }
 {
-    of_write(patch::write(bytes, map, out))
+    Answer::from(patch::write(bytes, map, out))
 }
 
 #[unsafe(no_mangle)]
 pub extern "C" fn nyekushiro_text(text: &[u8], out: &mut [u8]) -> Answer
     ensures { Typed text.now out.old (said result) out.new }
 {
-    of_typed(text::listing(text, out))
+    Answer::from(text::listing(text, out))
 }

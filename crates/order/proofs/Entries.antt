@@ -1,34 +1,10 @@
--- The entries of the need-for-order table, read from their numbers.
-use mathlib.Core.Path.{◌≡◌, refl}
+-- The kinds that the need-for-order table has entries for.
 use Prim.Native.Nat.{ℕ, ◌<◌}
 use native.Mathlib.Omega.{arith}
 use lib.Dec.{T, eqb, ltb, eqb→eq, ltb→lt}
 use Rattle.listing.specs.Kinds.{KINDS, READ, WRITE, RMW, ACQUIRE, RELEASE, ACQUIRE_PC}
 use Rattle.listing.proofs.Bools.{either}
 use Rattle.order.specs.Walks.{counts_read, counts_write, is_writer, is_access}
-use Rattle.order.specs.Need.{Entry, need, leave, leave_unless_rmw}
-use Rattle.order.specs.Inner.Table.{number_of}
-
-pub number_leave : (e : Entry) → number_of e ≡ 0 → e ≡ leave
-number_leave leave h = refl
-number_leave need h = absurd (omega arith)
-number_leave leave_unless_rmw h = absurd (omega arith)
-
-pub number_need : (e : Entry) → number_of e ≡ 1 → e ≡ need
-number_need leave h = absurd (omega arith)
-number_need need h = refl
-number_need leave_unless_rmw h = absurd (omega arith)
-
-pub number_unless : (e : Entry) → number_of e ≡ 2 → e ≡ leave_unless_rmw
-number_unless leave h = absurd (omega arith)
-number_unless need h = absurd (omega arith)
-number_unless leave_unless_rmw h = refl
-
--- there are three
-pub number_below : (e : Entry) → number_of e < 3
-number_below leave = omega arith
-number_below need = omega arith
-number_below leave_unless_rmw = omega arith
 
 -- AN ACCESS'S KIND IS ONE OF THE TABLE'S
 pub kind_below : (k : ℕ) → T (is_access k) → k < KINDS

@@ -4,7 +4,7 @@ ghost use Rattle.listing.specs.Kinds.{KINDS};
 ghost use Rattle.listing.specs.Inner.Coded.{number_of};
 ghost use Rattle.order.specs.Need as rules;
 ghost use Rattle.order.specs.Inner.Asking.{asked};
-ghost use Rattle.order.specs.Inner.Table.{entry_of};
+ghost use Rattle.order.specs.Inner.Table.{as_entry};
 
 use crate::Question;
 use listing::Kind;
@@ -20,7 +20,7 @@ pub enum Needed {
 // The same by question and the kinds of its ends.
 pub fn need(question: Question, first: Kind, second: Kind) -> Needed
     requires { (number_of first < KINDS) × (number_of second < KINDS) }
-    ensures { entry_of result ≡ rules.entry (rules.question (asked question)) (number_of first) (number_of second) }
+    ensures { as_entry result ≡ rules.entry (rules.question (asked question)) (number_of first) (number_of second) }
 {
     let row = usize::from(question.number() - 1) * Kind::COUNT + usize::from(first.number());
     match NEED[row * Kind::COUNT + usize::from(second.number())] {
@@ -30,8 +30,8 @@ pub fn need(question: Question, first: Kind, second: Kind) -> Needed
     }
 }
 
-// Each entry with its question, first kind and second kind: 0 leave, 1 need, 2 leave unless an RMW is inside. Numbers, since what may not change
-// asks for one table of 600 numbers, whose rule one computed test holds (`right_at`).
+// Each entry with its question, first kind and second kind: 0 leave, 1 need, 2 leave unless an RMW is inside. Numbers, since the customer named the
+// form: one table of 600 numbers (docs/DECISIONS.md).
 const NEED: [u8; Question::COUNT * Kind::COUNT * Kind::COUNT] = [
     0, // 1: 0 then 0
     0, // 1: 0 then 1

@@ -4,16 +4,15 @@
 mod nodes;
 mod words;
 
-ghost use Rattle.std.specs.Prelude.{OnOk};
+ghost use Rattle.std.specs.Prelude.{◌≤◌, ℕ, length, OnOk};
 ghost use Rattle.std.specs.Io.KnownBytes.{Appends};
 
-use listing::Listing;
+use listing::{Listing, Reason};
 pub use nodes::shown;
-use patch::ProposeAnswer;
 use say::LINE;
 use std::io;
 use std::io::Write;
-use verdict::{CHAIN_BYTES, JudgeAnswer};
+use verdict::{CHAIN_BYTES, Verdict};
 pub use words::explained;
 
 pub fn text<W: Write>(to: &mut W, words: &[u8]) -> io::Result<()>
@@ -27,35 +26,37 @@ pub fn next<W: Write>(to: &mut W, n: usize) -> io::Result<()> {
     write!(to, " {n}")
 }
 
-// The refusal, without the line's end.
-pub fn refusal<W: Write>(to: &mut W, number: u8, place: usize) -> io::Result<()> {
+// What is put at the start of a line's buffer.
+fn line<W: Write, F: FnOnce(&mut [u8; LINE]) -> usize>(to: &mut W, put: F) -> io::Result<()>
+    requires callable { F.IsAlwaysCallable put }
+    requires within { (line : _) (n : ℕ) (after : _) → F.post put line n after → n ≤ length after.now }
+{
     let mut line = [0u8; LINE];
-    let n = say::refusal(&mut line, number, place);
+    let n = put(&mut line);
     text(to, &line[..n])
 }
 
-pub fn refused<W: Write>(to: &mut W, number: u8, place: usize) -> io::Result<()> {
-    let mut line = [0u8; LINE];
-    let n = say::refused(&mut line, number, place);
-    text(to, &line[..n])
+// The refusal, without the line's end.
+pub fn refusal<W: Write>(to: &mut W, reason: Reason) -> io::Result<()> {
+    line(to, |line| say::refusal(line, reason))
+}
+
+pub fn refused<W: Write>(to: &mut W, reason: Reason) -> io::Result<()> {
+    line(to, |line| say::refused(line, reason))
 }
 
 pub fn judged<W: Write>(
     to: &mut W,
-    answer: JudgeAnswer,
+    answer: Result<Verdict, Reason>,
     chain: &[u8; CHAIN_BYTES],
 ) -> io::Result<()> {
-    let mut line = [0u8; LINE];
-    let n = say::judged(&mut line, answer, chain);
-    text(to, &line[..n])
+    line(to, |line| say::judged(line, answer, chain))
 }
 
 pub fn proposed<W: Write>(
     to: &mut W,
-    answer: ProposeAnswer,
+    answer: Result<usize, Reason>,
     map: &[u8; Listing::NODES],
 ) -> io::Result<()> {
-    let mut line = [0u8; LINE];
-    let n = say::proposed(&mut line, answer, map);
-    text(to, &line[..n])
+    line(to, |line| say::proposed(line, answer, map))
 }

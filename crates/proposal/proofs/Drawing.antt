@@ -5,6 +5,8 @@ use mathlib.Core.Bool.{true, false≢true}
 use mathlib.Core.List.{List}
 use Prim.Native.Nat.{ℕ, ◌+◌, ◌≤◌, ◌<◌}
 use native.Mathlib.Decide.{dec_lt}
+use Rattle.std.specs.Prelude.{Option, Some, None, is_some}
+use Rattle.std.specs.Int.{from_bool}
 use native.Mathlib.Omega.{arith}
 use borrow.Author.Count.{below_more}
 use lib.ListN.{length, get_or, take, set, get_or-eq_default}
@@ -14,19 +16,18 @@ use Rattle.listing.specs.Bytes.{count_n, nodes_of}
 use Rattle.listing.proofs.Nodes.{nodes_length}
 use Rattle.order.specs.Verdict.{Fails}
 use Rattle.order.specs.Proposed.{Proposed}
-use Rattle.rows.specs.Inner.Least.{Least}
+use Rattle.rows.specs.Inner.Least.{LeastIfAny}
 use Rattle.failing.proofs.Searching.{failing_in}
 use Rattle.fencing.specs.Marks.{is_mark, marks_of}
 use Rattle.fencing.proofs.Marks.{marks_length, marks_at}
 use Rattle.proposal.specs.Inner.Marking.{MarkOf, Marked, Drawn}
 
 -- ── One mark ────────────────────────────────────────────────────────────────
-module _ (q : ℕ) (L : Listing) (n a r : ℕ) (size : n ≡ length L) (second : Least (Fails q L a) 0 n r) where
-  pub marks_it : r < n → MarkOf q L a 1
-  marks_it h = inl (refl, (r, second.here h))
-
-  pub leaves_it : n ≤ r → MarkOf q L a 0
-  leaves_it h = inr (refl, λ b f. second.none b (omega arith) (omega (arith, (failing_in q L a b f).1)) f)
+module _ (q : ℕ) (L : Listing) (n a : ℕ) (size : n ≡ length L) where
+  -- 1 where there is a second node, and 0 where there is none
+  pub mark : (r : Option ℕ) → LeastIfAny (Fails q L a) 0 n r → MarkOf q L a (from_bool (is_some r))
+  mark (Some b) h = inl (refl, (b, h.1.here h.0))
+  mark None h = inr (refl, λ b f. h.none b (omega arith) (omega (arith, (failing_in q L a b f).1)) f)
 
 -- one mark more
 pub one_drawn : (q : ℕ) (L : Listing) (marks : List ℕ) (a x : ℕ) → a < length marks → Marked q L marks a → MarkOf q L a x

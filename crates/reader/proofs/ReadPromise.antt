@@ -24,7 +24,8 @@ unfolding read_of
 read_good s n f e = done_by (first_of (read_rules s)) (count_n s) (count_f s) n f (sym e)
 
 -- REFUSAL k AT p IS GIVEN EXACTLY IF RULE k APPLIES AT p AND NO EARLIER RULE DOES
-pub refused_exactly : (s : List ℕ) (r : Result (List ℕ) Reason) → read_says r ≡ read_of s → (k p : ℕ) → (read_says r ≡ refusal k p) ↔ FirstRow (read_rules s) k p
+pub refused_exactly : (s : List ℕ) (r : Result (List ℕ) Reason) → read_says r ≡ read_of s → (k p : ℕ)
+    → (read_says r ≡ refusal k p) ↔ FirstRow (read_rules s) k p
 unfolding read_of
 refused_exactly s r e k p = (
   λ h. exact (read_rules s) k p (refused_by (first_of (read_rules s)) (count_n s) (count_f s) k p (sym e ∙ h)),

@@ -45,6 +45,7 @@ fn entries(listing: &Listing) -> Set
 }
 
 // Finds b, if it is a node that was not found, and says so by its number.
+// It takes the count and not the listing, since a caller that puts the node somewhere needs the bound on it too.
 fn step(n: usize, found: &mut Set, b: u8) -> Option<usize>
     requires { n ≤ 128 }
     ensures { Stepped n found.old found.new b result }

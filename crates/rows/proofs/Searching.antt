@@ -1,9 +1,10 @@
 -- A search along a row, node by node: the least that satisfies something whose members all stand in the row.
-use mathlib.Core.Path.{◌≡◌}
+use mathlib.Core.Path.{◌≡◌, refl}
 use Prim.Native.Nat.{ℕ, ◌+◌, ◌≤◌, ◌<◌}
 use native.Mathlib.Omega.{arith}
 use native.Mathlib.Decide.{dec_lt}
-use Rattle.rows.specs.Inner.Least.{Least}
+use Rattle.std.specs.Prelude.{Option, Some, None, IsSome}
+use Rattle.rows.specs.Inner.Least.{Least, LeastIfAny}
 
 -- nothing from b on and below r satisfies P
 pub record Searched (P : ℕ → Type 0) (b n r : ℕ) : Type 0 where
@@ -49,9 +50,6 @@ module _ {P : ℕ → Type 0} {b n r : ℕ} (g : Searched P b n r) where
       record { low = omega arith; from = omega (arith, g.low, g.from); here = λ l. absurd (omega arith); none = λ z a l. g.none z a (omega arith) }
 
 -- WHERE THERE IS ONE, THE LEAST IS FOUND
-pub least_found : {P : ℕ → Type 0} {b n r : ℕ} → Least P b n r → (z : ℕ) → b ≤ z → z < n → P z → r < n
-least_found {n = n} {r = r} o z h l p = by (dec_lt z r)
-  where
-    by : Dec (z < r) → r < n
-    by (yes d) = absurd (o.none z h d p)
-    by (no d) = omega arith
+pub some_found : (P : ℕ → Type 0) (b n : ℕ) (r : Option ℕ) → LeastIfAny P b n r → (z : ℕ) → b ≤ z → z < n → P z → IsSome r
+some_found P b n (Some r) o z h l p = refl
+some_found P b n None o z h l p = absurd (o.none z h l p)

@@ -1,29 +1,30 @@
 -- The line of judge's answer is the judge program's line.
-use mathlib.Core.Path.{◌≡◌, refl, sym, ap, subst, ◌∙◌}
+use mathlib.Core.Path.{◌≡◌, refl, sym, ap, ap₂, subst, ◌∙◌}
 use mathlib.Core.List.{List, [], ◌∷◌, ◌++◌, append_assoc}
-use Prim.Native.Nat.{ℕ, ◌-◌, ◌≤◌}
+use Prim.Native.Nat.{ℕ, ◌≤◌}
 use native.Mathlib.Omega.{arith}
-use borrow.Rule.Slice.PartMut.{mid_of}
+use Rattle.std.specs.Prelude.{Result, Ok, Err}
 use lib.ListN.{length, drop}
 use Rattle.listing.specs.Node.{Listing}
-use Rattle.listing.specs.Bytes.{byte, nodes_of}
+use Rattle.listing.specs.Bytes.{nodes_of}
 use Rattle.listing.specs.Rules.{Rule, Refusal, passed, refused, first_of}
-use Rattle.listing.specs.Answer.{filled}
+use Rattle.listing.specs.Answer.{Answer, refusal, filled}
+use Rattle.listing.specs.Ascii.{bytes}
+use Rattle.listing.specs.declared.reason.Reason.{Reason}
 use Rattle.listing.specs.Inner.Numbered.{or_else}
 use Rattle.listing.proofs.Table.{first_of_append}
 use Rattle.order.specs.Chains.{Ends}
 use Rattle.order.specs.Verdict.{Verdict, robust, opened}
 use Rattle.reader.specs.Read.{read_rules}
-use Rattle.verdict.specs.declared.JudgeAnswer.{JudgeAnswer}
-use Rattle.verdict.specs.declared.JudgeAnswer.TheVariants.{Robust, Open, Refused}
+use Rattle.verdict.specs.declared.Verdict.{Verdict as Decided}
+use Rattle.verdict.specs.declared.Verdict.TheVariants.{Robust, Open}
 use Rattle.verdict.specs.Judging.{question_rules, buffer_rules, CHAIN, judge_rules, judge_says, chain_bytes, verdict_says, verdict_bytes, Judging, JudgePromise}
 use Rattle.verdict.proofs.Refusing.{buffer_passes}
-use Rattle.verdict.proofs.Promise.{says_once}
+use Rattle.verdict.proofs.Promise.{one_kind, says_once}
 use Rattle.patch.specs.Patching.{ask_rules}
 use Rattle.lines.specs.Text.{pair}
 use Rattle.say.specs.Lines.{refusal_line, pairs, open_line, verdict_line, JudgedLine, JudgeLine}
-use Rattle.say.specs.Inner.Answers.{pairs_of, judged_line}
-use Rattle.say.proofs.Lining.{after_question}
+use Rattle.say.specs.Inner.Answers.{pairs_of, told_line, judged_line}
 
 -- rules that let pass change nothing
 no_more : (x y : Refusal) → y ≡ passed → or_else x y ≡ x
@@ -45,33 +46,31 @@ written : (ps : List Ends) (rest : List ℕ) → pairs_of (length ps) (chain_byt
 written [] rest = refl
 written (p ∷ ps) rest = ap (λ (l : List ℕ). pair p.0 p.1 ++ l) (written ps rest)
 
-pub verdict_line_lem : (v : Verdict) (r : JudgeAnswer) (old new : List ℕ)
+pub verdict_line_lem : (v : Verdict) (r : Result Decided Reason) (old new : List ℕ)
     → judge_says r ≡ verdict_says v → new ≡ filled (verdict_bytes v) old → judged_line r new ≡ verdict_line v
-verdict_line_lem robust r old new e w = ap (λ (x : JudgeAnswer). judged_line x new) (says_once r Robust e)
+verdict_line_lem robust r old new e w = ap (λ (x : Result Decided Reason). judged_line x new) (says_once r (Ok Robust) e)
 verdict_line_lem (opened p rest) r old new e w =
     let ps = p ∷ rest in
     let n = length ps in
-    ap (λ (x : JudgeAnswer). judged_line x new) (says_once r (Open p.0 p.1 n) e)
+    ap (λ (x : Result Decided Reason). judged_line x new) (says_once r (Ok (Open p.0 p.1 n)) e)
     ∙ ap (λ (l : List ℕ). open_line p.0 p.1 n (pairs_of n l)) w
     ∙ ap (open_line p.0 p.1 n) (written ps (drop (length (chain_bytes ps)) old))
 
-judged_line_lem : (f : Refusal) (q : ℕ) (L : Listing) (old new : List ℕ) (r : JudgeAnswer)
+-- a refusal that was said is its reason's line, whatever the words for ROBUST
+pub refusal_told : (words : List ℕ) (k p : ℕ) (r : Result Decided Reason) (new : List ℕ)
+    → judge_says r ≡ refusal k p → told_line words r new ≡ refusal_line k p
+refusal_told words k p (Ok Robust) new e = let z : ◌≡◌ {A = ℕ} 0 2 = one_kind e in absurd (omega arith)
+refusal_told words k p (Ok (Open a b n)) new e = let z : ◌≡◌ {A = ℕ} 1 2 = one_kind e in absurd (omega arith)
+refusal_told words k p (Err r) new e = ap₂ refusal_line (ap (λ (x : Answer). x.first) e) (ap (λ (x : Answer). x.second) e)
+
+judged_line_lem : (f : Refusal) (q : ℕ) (L : Listing) (old new : List ℕ) (r : Result Decided Reason)
     → Judging f q L old new (judge_says r) → JudgedLine f q L (judged_line r new)
 judged_line_lem passed q L old new r t = (t.verdict, t.judged, verdict_line_lem t.verdict r old new t.says t.writes)
-judged_line_lem (refused k p) q L old new r h = ap (λ (x : JudgeAnswer). judged_line x new) (says_once r (Refused k p) h.0)
+judged_line_lem (refused k p) q L old new r h = refusal_told (bytes "ROBUST\n") k p r new h.0
 
--- empty input
-pub judge_empty : (input : List ℕ) → length input ≡ 0 → JudgeLine input (refusal_line 1 0)
-judge_empty [] e = refl
-judge_empty (x ∷ s) e = absurd (omega (arith, e))
-
--- THE JUDGE PROGRAM'S LINE, where the input has a question q and the rest is the listing
-pub judge_line : (input : List ℕ) (q : ℕ) (old new : List ℕ) (r : JudgeAnswer)
-    → (length input ≡ 0 → ⊥) → q ≡ byte input 0 → CHAIN ≤ length old
-    → JudgePromise q (mid_of 1 (length input - 1) input) old new (judge_says r) → JudgeLine input (judged_line r new)
-judge_line [] q old new r some e h p = absurd (some refl)
-judge_line (x ∷ s) q old new r some e h p =
-    let at = subst (λ (t : List ℕ). JudgePromise q t old new (judge_says r)) (after_question x s) p in
-    let of = subst (λ (y : ℕ). JudgePromise y s old new (judge_says r)) e at in
-    judged_line_lem (first_of (ask_rules x s)) x (nodes_of s) old new r
-    (subst (λ (f : Refusal). Judging f x (nodes_of s) old new (judge_says r)) (asked x s old h) of)
+-- THE JUDGE PROGRAM'S LINE, of a question and a listing's bytes
+pub judge_line : (q : ℕ) (s old new : List ℕ) (r : Result Decided Reason)
+    → CHAIN ≤ length old → JudgePromise q s old new (judge_says r) → JudgeLine (q ∷ s) (judged_line r new)
+judge_line q s old new r h p =
+    judged_line_lem (first_of (ask_rules q s)) q (nodes_of s) old new r
+    (subst (λ (f : Refusal). Judging f q (nodes_of s) old new (judge_says r)) (asked q s old h) p)

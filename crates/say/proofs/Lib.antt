@@ -1,4 +1,5 @@
 pub mod Lining
+pub mod Sizes
 pub mod Pieces
 pub mod Judging
 pub mod Proposing

@@ -1,50 +1,46 @@
 -- The pairs of a chain buffer and the places of a map, one at a time.
-use mathlib.Core.Path.{◌≡◌, refl, sym, ap, ◌∙◌}
+use mathlib.Core.Path.{◌≡◌, refl, sym, ap, ap₂, ◌∙◌}
 use mathlib.Core.Bool.{Bool, cond}
 use mathlib.Core.List.{List, [], ◌∷◌, ◌++◌}
-use Prim.Native.Nat.{ℕ, zero, suc, ◌+◌, ◌-◌, ◌*◌, ◌/◌, ◌≤◌, ◌<◌}
-use native.Mathlib.Nat.{sub-zero}
+use Prim.Native.Nat.{ℕ, zero, suc, ◌+◌, ◌/◌, ◌≤◌, ◌<◌}
 use native.Mathlib.Numerals.{add-one}
 use native.Mathlib.Omega.{arith}
 use borrow.Author.Tests.{eq-eqb, ne_eqb}
-use lib.ListN.{length, drop, length-drop, drop_of_length-le}
+use lib.ListN.{length, drop, drop_of_length-le}
+use Rattle.std.specs.Simd.{first_chunks}
 use Rattle.listing.specs.Bytes.{byte}
 use Rattle.listing.proofs.Stores as stores
-use Rattle.lines.specs.Text.{next}
-use Rattle.say.specs.Inner.Answers.{pair_at, pairs_of, place_of, places_of}
+use Rattle.lines.specs.Text.{next, pair}
+use Rattle.say.specs.Inner.Answers.{pairs_of, place_of, places_of}
 
 -- ── Pairs ───────────────────────────────────────────────────────────────────
-short : (n : ℕ) (l : List ℕ) → length l ≤ 1 → pairs_of n l ≡ []
-short zero l h = refl
-short (suc n) [] h = refl
-short (suc n) (a ∷ []) h = refl
-short (suc n) (a ∷ b ∷ l) h = absurd (omega arith)
+-- n pairs of a buffer that is cut into twos, or as many as there are
+abbrev pub pairs_in : ℕ → List (List ℕ) → List ℕ
+pairs_in zero cs = []
+pairs_in (suc n) [] = []
+pairs_in (suc n) (c ∷ cs) = pair (byte c 0) (byte c 1) ++ pairs_in n cs
 
-module _ (chain : List ℕ) (count i : ℕ) where
-  -- those from pair i on
-  abbrev pub pairs_left : List ℕ
-  pairs_left = pairs_of (count - i) (drop (2 * i) chain)
+-- they are the buffer's
+pub in_twos : (n k : ℕ) (chain : List ℕ) → k ≡ length chain / 2 → pairs_in n (first_chunks 2 k chain) ≡ pairs_of n chain
+in_twos zero k chain e = refl
+in_twos (suc n) zero [] e = refl
+in_twos (suc n) (suc k) [] e = absurd (omega arith)
+in_twos (suc n) zero (a ∷ []) e = refl
+in_twos (suc n) (suc k) (a ∷ []) e = absurd (omega arith)
+in_twos (suc n) zero (a ∷ b ∷ l) e = absurd (omega arith)
+in_twos (suc n) (suc k) (a ∷ b ∷ l) e = ap (λ (t : List ℕ). pair a b ++ t) (in_twos n k l (omega arith))
 
-  pub pairs_counted : count ≤ i → pairs_left ≡ []
-  pairs_counted h =
-      let none : count - i ≡ 0 = omega arith in
-      ap (λ (n : ℕ). pairs_of n (drop (2 * i) chain)) none
+-- the next of them
+pub pair_next : {n a b : ℕ} {c : List ℕ} {all : List (List ℕ)} (m : ℕ) (cs : List (List ℕ)) → a ≡ byte c 0 → b ≡ byte c 1 → all ≡ c ∷ cs → m + 1 ≡ n
+    → pairs_in n all ≡ pair a b ++ pairs_in m cs
+pair_next {c = c} m cs ea eb e f =
+    ap₂ pairs_in (sym f ∙ add-one m) e ∙ ap (λ (t : List ℕ). t ++ pairs_in m cs) (ap₂ pair (sym ea) (sym eb))
 
-  pub buffer_ends : length chain / 2 ≤ i → pairs_left ≡ []
-  buffer_ends h = short (count - i) (drop (2 * i) chain) (omega (arith, length-drop (2 * i) chain))
-
-pub pairs_all : (chain : List ℕ) (count : ℕ) → pairs_left chain count 0 ≡ pairs_of count chain
-pairs_all chain count = ap (λ (n : ℕ). pairs_of n chain) (sub-zero count)
-
-pub pair_next : (chain : List ℕ) (count i : ℕ) → i < count → 2 * i + 1 < length chain
-    → pairs_left chain count i ≡ pair_at chain i ++ pairs_left chain count (i + 1)
-pair_next chain count i h k =
-    let more : count - i ≡ suc (count - (i + 1)) = omega arith in
-    let past : 2 * i + 1 + 1 ≡ 2 * (i + 1) = omega arith in
-    let two = stores.next chain (2 * i) 0 (omega arith) ∙ ap (λ (l : List ℕ). byte chain (2 * i) ∷ l) (stores.next chain (2 * i + 1) 0 k) in
-    ap (λ (n : ℕ). pairs_of n (drop (2 * i) chain)) more
-    ∙ ap (pairs_of (suc (count - (i + 1)))) two
-    ∙ ap (λ (j : ℕ). pair_at chain i ++ pairs_of (count - (i + 1)) (drop j chain)) past
+-- none is left
+pub pairs_end : (n : ℕ) (cs : List (List ℕ)) → (0 < n → length cs ≡ 0) → pairs_in n cs ≡ []
+pairs_end zero cs h = refl
+pairs_end (suc n) [] h = refl
+pairs_end (suc n) (c ∷ cs) h = absurd (omega (arith, h (omega arith)))
 
 -- ── Places ──────────────────────────────────────────────────────────────────
 pub is_place : (i x : ℕ) → x ≡ 1 → place_of i x ≡ next i

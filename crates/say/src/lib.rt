@@ -2,6 +2,7 @@
 #![tactic(auto)]
 
 mod line;
+mod program;
 
 ghost use Rattle.std.specs.Prelude.{◌≡◌, length};
 ghost use Rattle.io.specs.Counts.{IsPrefixLen};
@@ -9,6 +10,7 @@ ghost use Rattle.say.specs.Lines.{JudgeLinePromise, ProposeLinePromise};
 ghost use Rattle.say.specs.Lines.{INPUT as Lines-as-INPUT};
 
 pub use line::{judged, proposed, refusal, refused, told, unasked};
+pub use program::answer;
 use listing::Listing;
 use verdict::CHAIN_BYTES;
 
@@ -18,7 +20,7 @@ pub const INPUT: usize = 1 + Listing::LONGEST + 1;
 // OPEN with three numbers of 64 bits, as many pairs as a chain buffer has, and the line's end.
 pub const LINE: usize = 4 + 3 * 21 + CHAIN_BYTES / 2 * 8 + 1;
 
-// Zeros for a program's input.
+// Zeros for a program's input. A program with another has its own: the clause holds the size to that of the program's promise.
 pub fn room() -> [u8; INPUT]
     ensures { Lines-as-INPUT ≡ length result }
 {
@@ -26,16 +28,16 @@ pub fn room() -> [u8; INPUT]
 }
 
 // The judge program's line of its whole input, and how long it is.
+// No plainer as one function with the next: the service, its buffer, the line and the promise all differ.
 pub fn judge(input: &[u8], line: &mut [u8; LINE]) -> usize
     ensures judge_line_promise { JudgeLinePromise input.now line.old line.new result }
     ensures prefix_len { IsPrefixLen result line.new }
 {
-    if input.len() == 0 {
+    let Some((question, bytes)) = input.split_first() else {
         return line::unasked(line);
-    }
-    let question = listing::wide(input[0]) as u64;
+    };
     let mut chain = [0u8; CHAIN_BYTES];
-    let answer = verdict::judge(question, &input[1..], &mut chain);
+    let answer = verdict::judge(u64::from(*question), bytes, &mut chain);
     line::judged(line, answer, &chain)
 }
 
@@ -44,12 +46,11 @@ pub fn propose(input: &[u8], line: &mut [u8; LINE]) -> usize
     ensures propose_line_promise { ProposeLinePromise input.now line.old line.new result }
     ensures prefix_len { IsPrefixLen result line.new }
 {
-    if input.len() == 0 {
+    let Some((question, bytes)) = input.split_first() else {
         return line::unasked(line);
-    }
-    let question = listing::wide(input[0]) as u64;
+    };
     // Beyond the listing's nodes the map keeps its zeros, and so has no place.
     let mut map = [0u8; Listing::NODES];
-    let answer = proposal::propose(question, &input[1..], &mut map);
+    let answer = proposal::propose(u64::from(*question), bytes, &mut map);
     line::proposed(line, answer, &map)
 }

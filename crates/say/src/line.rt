@@ -1,31 +1,72 @@
 // A program's line, put into a lent buffer.
-ghost use Rattle.std.specs.Prelude.{◌+◌, ◌*◌, ◌≤◌, ◌<◌, length};
+ghost use Rattle.std.specs.Prelude.{◌+◌, ◌*◌, ◌≤◌, length};
 ghost use Rattle.io.specs.Counts.{IsPrefixLen};
+ghost use Rattle.listing.specs.Reason as rules;
 ghost use Rattle.lines.specs.Inner.Put.{Put};
+ghost use Rattle.lines.specs.Inner.Growing.{Grows};
 ghost use Rattle.say.specs.Lines.{refusal_words, refusal_line, open_line, proposal_line, Lined};
-ghost use Rattle.say.specs.Inner.Answers.{pair_at, pairs_of, place_of, places_of, told_line, judged_line, proposed_line};
+ghost use Rattle.say.specs.Inner.Answers.{pairs_of, places_of, reason_line, told_line, judged_line, proposed_line};
 
 use crate::LINE;
-use listing::Listing;
-use patch::ProposeAnswer;
-use verdict::{CHAIN_BYTES, JudgeAnswer};
+use lines::Line;
+use listing::{Listing, Reason};
+use verdict::{CHAIN_BYTES, Verdict};
 
-// The refusal, without the line's end.
-pub fn refusal(line: &mut [u8; LINE], number: u8, place: usize) -> usize
-    ensures put { Put line.old 0 (refusal_words number place) line.new result × (result ≤ 49) }
-    ensures prefix_len { IsPrefixLen result line.new }
+// A refusal, without the line's end.
+#[tactic(auto, using(lines::proofs::Decimal::next_room))]
+fn put_refusal(line: &mut Line, reason: Reason)
+    requires { line.old.end + 49 ≤ length line.old.buffer.now }
+    ensures put { Grows line.old (refusal_words (rules.number reason) (rules.place reason)) line.new }
+    ensures upper_bound { line.new.end ≤ line.old.end + 49 }
 {
-    let word = lines::words(line, 0, b"REFUSED");
-    let first = lines::next(line, word, number as usize);
-    lines::next(line, first, place)
+    line.words(b"REFUSED");
+    line.next(usize::from(reason.number()));
+    line.next(reason.place());
 }
 
-pub fn refused(line: &mut [u8; LINE], number: u8, place: usize) -> usize
-    ensures lined { Lined (refusal_line number place) line.old line.new result }
+// The pairs of a chain, as far as its buffer goes.
+fn pairs(line: &mut Line, chain: &[u8], count: usize)
+    requires { line.old.end + 4 * length chain.now ≤ length line.old.buffer.now }
+    ensures put { Grows line.old (pairs_of count chain.now) line.new }
+    ensures upper_bound { line.new.end ≤ line.old.end + 4 * length chain.now }
+{
+    let (pairs, _) = chain.as_chunks::<2>();
+    for [a, b] in pairs.iter().take(count) {
+        line.pair(usize::from(*a), usize::from(*b));
+    }
+}
+
+// The places of a map.
+fn places(line: &mut Line, map: &[u8])
+    requires { (length map.now ≤ 1000) × (line.old.end + 4 * length map.now ≤ length line.old.buffer.now) }
+    ensures put { Grows line.old (places_of 0 map.now) line.new }
+    ensures upper_bound { line.new.end ≤ line.old.end + 4 * length map.now }
+{
+    for (i, byte) in map.iter().enumerate() {
+        if *byte == 1 {
+            line.next(i);
+        }
+    }
+}
+
+// The refusal, without the line's end.
+pub fn refusal(line: &mut [u8; LINE], reason: Reason) -> usize
+    ensures put { Put line.old 0 (refusal_words (rules.number reason) (rules.place reason)) line.new result × (result ≤ 49) }
     ensures prefix_len { IsPrefixLen result line.new }
 {
-    let end = refusal(line, number, place);
-    lines::words(line, end, b"\n")
+    let mut line = Line::new(line);
+    put_refusal(&mut line, reason);
+    line.end
+}
+
+pub fn refused(line: &mut [u8; LINE], reason: Reason) -> usize
+    ensures lined { Lined (reason_line reason) line.old line.new result }
+    ensures prefix_len { IsPrefixLen result line.new }
+{
+    let mut line = Line::new(line);
+    put_refusal(&mut line, reason);
+    line.words(b"\n");
+    line.end
 }
 
 // Empty input asks no question.
@@ -33,62 +74,10 @@ pub fn unasked(line: &mut [u8; LINE]) -> usize
     ensures lined { Lined (refusal_line 1 0) line.old line.new result }
     ensures prefix_len { IsPrefixLen result line.new }
 {
-    refused(line, 1, 0)
+    refused(line, Reason::Question)
 }
 
-// Pair i of a chain.
-fn pair(line: &mut [u8], at: usize, chain: &[u8], i: usize) -> usize
-    requires { (2 * i + 1 < length chain.now) × (at + 8 ≤ length line.old) }
-    ensures { Put line.old at (pair_at chain.now i) line.new result × (result ≤ at + 8) }
-{
-    let a = listing::wide(chain[2 * i]);
-    let b = listing::wide(chain[2 * i + 1]);
-    lines::pair(line, at, a, b)
-}
-
-// The pairs of a chain, as far as its buffer goes.
-fn pairs(line: &mut [u8], at: usize, chain: &[u8], count: usize) -> usize
-    requires { at + 4 * length chain.now ≤ length line.old }
-    ensures put { Put line.old at (pairs_of count chain.now) line.new result }
-    ensures upper_bound { result ≤ at + 4 * length chain.now }
-{
-    let most = chain.len() / 2;
-    let mut end = at;
-    let mut i: usize = 0;
-    while i < count {
-        if most <= i {
-            return end;
-        }
-        end = pair(line, end, chain, i);
-        i += 1;
-    }
-    end
-}
-
-// A place, where the map's byte is 1.
-fn place(line: &mut [u8], at: usize, i: usize, byte: u8) -> usize
-    requires { (i < 1000) × (at + 4 ≤ length line.old) }
-    ensures { Put line.old at (place_of i byte) line.new result × (result ≤ at + 4) }
-{
-    if byte == 1 {
-        return lines::next(line, at, i);
-    }
-    at
-}
-
-// The places of a map.
-fn places(line: &mut [u8], at: usize, map: &[u8]) -> usize
-    requires { (length map.now ≤ 1000) × (at + 4 * length map.now ≤ length line.old) }
-    ensures put { Put line.old at (places_of 0 map.now) line.new result }
-    ensures upper_bound { result ≤ at + 4 * length map.now }
-{
-    let mut end = at;
-    for i in 0..map.len() {
-        end = place(line, end, i, map[i]);
-    }
-    end
-}
-
+#[tactic(auto, using(lines::proofs::Decimal::next_room))]
 fn open(
     line: &mut [u8; LINE],
     first: usize,
@@ -98,19 +87,21 @@ fn open(
 ) -> usize
     ensures { Lined (open_line first second count (pairs_of count chain.now)) line.old line.new result }
 {
-    let word = lines::words(line, 0, b"OPEN");
-    let a = lines::next(line, word, first);
-    let b = lines::next(line, a, second);
-    let n = lines::next(line, b, count);
-    let end = pairs(line, n, chain, count);
-    lines::words(line, end, b"\n")
+    let mut line = Line::new(line);
+    line.words(b"OPEN");
+    line.next(first);
+    line.next(second);
+    line.next(count);
+    pairs(&mut line, chain, count);
+    line.words(b"\n");
+    line.end
 }
 
 // The line of what judging answers, with the words for ROBUST.
 pub fn told(
     line: &mut [u8; LINE],
     robust: &[u8],
-    answer: JudgeAnswer,
+    answer: Result<Verdict, Reason>,
     chain: &[u8; CHAIN_BYTES],
 ) -> usize
     requires { length robust.now ≤ 1000 }
@@ -118,40 +109,57 @@ pub fn told(
     ensures prefix_len { IsPrefixLen result line.new }
 {
     match answer {
-        JudgeAnswer::Robust => lines::words(line, 0, robust),
-        JudgeAnswer::Refused { number, place } => refused(line, number, place),
-        JudgeAnswer::Open {
-            first,
-            second,
-            count,
-        } => open(line, first, second, count, chain),
+        Ok(Verdict::Robust) => {
+            let mut line = Line::new(line);
+            line.words(robust);
+            line.end
+        }
+        Ok(
+            Verdict::Open {
+                first,
+                second,
+                count,
+            },
+        ) => open(line, first, second, count, chain),
+        Err(reason) => refused(line, reason),
     }
 }
 
 // The judge's line.
-pub fn judged(line: &mut [u8; LINE], answer: JudgeAnswer, chain: &[u8; CHAIN_BYTES]) -> usize
+pub fn judged(
+    line: &mut [u8; LINE],
+    answer: Result<Verdict, Reason>,
+    chain: &[u8; CHAIN_BYTES],
+) -> usize
     ensures lined { Lined (judged_line answer chain.now) line.old line.new result }
     ensures prefix_len { IsPrefixLen result line.new }
 {
     told(line, b"ROBUST\n", answer, chain)
 }
 
+#[tactic(auto, using(lines::proofs::Decimal::next_room))]
 fn offered(line: &mut [u8; LINE], count: usize, map: &[u8; Listing::NODES]) -> usize
     ensures { Lined (proposal_line count (places_of 0 map.now)) line.old line.new result }
 {
-    let word = lines::words(line, 0, b"PROPOSED");
-    let n = lines::next(line, word, count);
-    let end = places(line, n, map);
-    lines::words(line, end, b"\n")
+    let mut line = Line::new(line);
+    line.words(b"PROPOSED");
+    line.next(count);
+    places(&mut line, map);
+    line.words(b"\n");
+    line.end
 }
 
 // The proposer's line: how many places its map has, and each.
-pub fn proposed(line: &mut [u8; LINE], answer: ProposeAnswer, map: &[u8; Listing::NODES]) -> usize
+pub fn proposed(
+    line: &mut [u8; LINE],
+    answer: Result<usize, Reason>,
+    map: &[u8; Listing::NODES],
+) -> usize
     ensures lined { Lined (proposed_line answer map.now) line.old line.new result }
     ensures prefix_len { IsPrefixLen result line.new }
 {
     match answer {
-        ProposeAnswer::Refused { number, place } => refused(line, number, place),
-        ProposeAnswer::Proposed { places } => offered(line, places, map),
+        Ok(places) => offered(line, places, map),
+        Err(reason) => refused(line, reason),
     }
 }

@@ -51,6 +51,7 @@ pub fn exchanged_rows(
 
 // The pairs, who meets whom, and the suspects: the pairs on a chain with a walk that no barrier bars. i is for the work: it keeps who leads back
 // to whom, and then the walks without barrier.
+#[tactic(auto, using(crate::proofs::Suspected::suspects_hold))]
 pub fn suspects(
     question: Question,
     listing: &Listing,
@@ -59,7 +60,8 @@ pub fn suspects(
     c: &mut Relation,
     i: &mut Relation,
 )
-    ensures { Ready (asked question) listing.now p.new m.new c.new }
+    ensures ready { Ready (asked question) listing.now p.new m.new c.new }
+    ensures whole { Whole listing.now }
 {
     pair_rows(listing, p);
     meetings::meet_rows(listing, m);

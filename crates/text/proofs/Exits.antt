@@ -21,11 +21,7 @@ unfolding limit
 limit_eight = omega arith
 
 module _ (k : ℕ) where
-  pub exit_none : k % 256 ≡ 0 → exit_of k ≡ none
-  unfolding exit_of
-  exit_none e = rw (eq-eqb (k % 256) 0 e)
-
-  pub exit_some : (k % 256 ≡ 0 → ⊥) → exit_of k ≡ k % 256 - 1
+  exit_some : (k % 256 ≡ 0 → ⊥) → exit_of k ≡ k % 256 - 1
   unfolding exit_of
   exit_some h = rw (ne_eqb (k % 256) 0 h)
 

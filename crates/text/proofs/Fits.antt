@@ -11,7 +11,29 @@ use Rattle.listing.specs.Rules.{passed, first_of}
 use Rattle.listing.proofs.Bools.{or_neither, neither_or}
 use Rattle.listing.proofs.Table.{none_applies, lets_pass}
 use Rattle.grammar.specs.Tree.{Text, parts_of, size_of}
+use Rattle.grammar.specs.declared.Size.{Size}
 use Rattle.text.specs.Typing.{typed_rules}
+use Rattle.text.specs.Inner.Counted.{count_rules}
+
+-- so many parts and nodes are written into so many bytes
+pub record Fitting (size : Size) (room : ℕ) : Type 0 where
+  pub some : 1 ≤ size.parts
+  pub routines : size.parts ≤ ROUTINES
+  pub nodes : size.nodes ≤ NODES
+  pub long : record_at size.nodes ≤ room
+
+pub counts_fit : (size : Size) (room : ℕ) → first_of (count_rules size room) ≡ passed → Fitting size room
+unfolding count_rules
+counts_fit size room e =
+    let o = none_applies (count_rules size room) e in
+    let five = or_neither (eqb size.parts 0) (ltb ROUTINES size.parts) o.0 in
+    let some = eqb-false size.parts 0 five.0 in
+    record {
+      some = omega arith;
+      routines = ltb-false ROUTINES size.parts five.1;
+      nodes = ltb-false NODES size.nodes o.1.0;
+      long = ltb-false room (record_at size.nodes) o.1.1.0;
+    }
 
 pub record Fits (t : Text) (room : ℕ) : Type 0 where
   pub some : 1 ≤ parts_of t
@@ -21,20 +43,13 @@ pub record Fits (t : Text) (room : ℕ) : Type 0 where
 
 -- NOTHING IS REFUSED OF A TREE EXACTLY IF IT FITS
 pub fits_exactly : (t : Text) (room : ℕ) → (first_of (typed_rules t room) ≡ passed) ↔ Fits t room
-unfolding typed_rules
+unfolding typed_rules count_rules
 fits_exactly t room = (fit, pass)
   where
     fit : first_of (typed_rules t room) ≡ passed → Fits t room
     fit e =
-        let o = none_applies (typed_rules t room) e in
-        let five = or_neither (eqb (parts_of t) 0) (ltb ROUTINES (parts_of t)) o.0 in
-        let some = eqb-false (parts_of t) 0 five.0 in
-        record {
-          some = omega arith;
-          routines = ltb-false ROUTINES (parts_of t) five.1;
-          nodes = ltb-false NODES (size_of t) o.1.0;
-          long = ltb-false room (record_at (size_of t)) o.1.1.0;
-        }
+        let f = counts_fit (record { parts = parts_of t; nodes = size_of t }) room e in
+        record { some = f.some; routines = f.routines; nodes = f.nodes; long = f.long }
 
     pass : Fits t room → first_of (typed_rules t room) ≡ passed
     pass h =

@@ -9,6 +9,7 @@ pub mod Wrote
 pub mod Blocks
 pub mod Writing
 pub mod Made
+pub mod Fits
 pub mod Service
 pub mod Promise
 pub mod Every
@@ -17,7 +18,6 @@ pub mod Kinded
 pub mod Placed
 pub mod PartNodes
 pub mod Reached
-pub mod Fits
 pub mod Admitted
 pub mod ReadsBack
 pub mod Cases

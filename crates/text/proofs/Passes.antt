@@ -1,28 +1,16 @@
--- The cursor's way past a block, word by word.
-use mathlib.Core.Path.{◌≡◌, refl, sym, ap, ◌∙◌}
+-- A reader's way past a block, word by word.
+use mathlib.Core.Path.{◌≡◌, refl, sym, ap, ◌∙◌, subst}
 use mathlib.Core.List.{List, ◌∷◌}
 use Prim.Native.Nat.{ℕ, zero, suc, ◌+◌, ◌-◌, ◌<◌, ◌≤◌}
 use native.Mathlib.Nat.{add-zero}
 use native.Mathlib.Omega.{arith}
-use lib.ListN.{length}
 use Rattle.words.specs.Words.{Token, Close}
-use Rattle.words.specs.Inner.Looking.{nothing_code, open_code, close_code, fence_code, access_code, token_of}
-use Rattle.grammar.specs.Inner.Reader.{end_of, said_of, passed_of, Looked, Passed}
-use Rattle.grammar.proofs.Moves.{each}
-use Rattle.text.specs.Inner.Pen.{tokens, makes, Makes, beyond, past, Passing, PastBlock}
-use Rattle.text.proofs.Looks.{look_none, look_some, look_within, look_later, look_on, end_none}
-
--- ── How many nodes a word counts for ────────────────────────────────────────
-pub makes_one : {c : ℕ} → ((v : ℕ) → makes (token_of c v) ≡ 1) → Makes c 1
-makes_one h = record { same = λ v. sym (h v); few = omega arith }
-
-pub makes_none : {c : ℕ} → (c ≡ access_code → ⊥) → (c ≡ fence_code → ⊥) → (c ≡ open_code → ⊥) → Makes c 0
-makes_none {c} no_access no-fence no_open = record { same = same; few = omega arith }
-  where
-    same : (v : ℕ) → 0 ≡ makes (token_of c v)
-    same v =
-        each (λ t. 0 ≡ makes t) c v (λ _. refl) (λ _. refl) (λ _. refl) (λ e. absurd (no_open e)) (λ _. refl) (λ e. absurd (no-fence e))
-        (λ e. absurd (no_access e)) (λ _. refl) refl
+use Rattle.words.specs.declared.Word.{Word as Said}
+use Rattle.words.specs.declared.Word.TheVariants as said
+use Rattle.words.specs.Inner.Looking.{token_of}
+use Rattle.grammar.specs.Inner.Reader.{Cursor, Looked, Passed}
+use Rattle.text.specs.Inner.Pen.{tokens, makes, beyond, past, Passing, PastBlock}
+use Rattle.text.proofs.Looks.{look_none, look_some, look_later, look_on, end_none}
 
 -- ── One word ────────────────────────────────────────────────────────────────
 close_last : (ws : List Token) (o n : ℕ) → o ≤ 1 → past (Close ∷ ws) o n ≡ beyond n ws
@@ -36,60 +24,67 @@ close_inner ws (suc zero) n h = absurd (omega arith)
 close_inner ws (suc (suc o)) n h = let e : suc (suc o) - 1 ≡ suc o = omega arith in rw e
 
 -- a word that is no brace
-other_past : (c v : ℕ) (ws : List Token) (o n : ℕ) → (c ≡ open_code → ⊥) → (c ≡ close_code → ⊥)
-    → past (token_of c v ∷ ws) o n ≡ past ws o (n + makes (token_of c v))
-other_past c v ws o n no_open no-close =
-    let none = ap (past ws o) (sym (add-zero n)) in
-    each (λ t. past (t ∷ ws) o n ≡ past ws o (n + makes t)) c v (λ _. none) (λ _. none) (λ _. none) (λ e. absurd (no_open e))
-    (λ e. absurd (no-close e)) (λ _. refl) (λ _. refl) (λ _. none) none
+other_past : (k : Said) (ws : List Token) (o n : ℕ) → (k ≡ said.Open → ⊥) → (k ≡ said.Close → ⊥)
+    → past (token_of k ∷ ws) o n ≡ past ws o (n + makes (token_of k))
+other_past k ws o n = elim k as (λ j. (j ≡ said.Open → ⊥) → (j ≡ said.Close → ⊥) → past (token_of j ∷ ws) o n ≡ past ws o (n + makes (token_of j))) [
+  | said.Open ↦ λ a b. absurd (a refl)
+  | said.Close ↦ λ a b. absurd (b refl)
+  | said.Fence ↦ λ a b. refl
+  | said.Access k ↦ λ a b. refl
+  | _ ↦ λ a b. ap (past ws o) (sym (add-zero n))
+]
 
-pub passing_starts : {s at : List ℕ} → end_of at ≤ length s → passed_of at ≤ end_of at → Passing s at at 0
-passing_starts within few = record { same = refl; within = within; few = few; less = omega arith }
+pub makes_few : (k : Said) → makes (token_of k) ≤ 1
+makes_few k = elim k as (λ j. makes (token_of j) ≤ 1) [
+  | said.End ↦ omega arith
+  | _ ↦ omega arith
+]
 
-module _ {s old at new : List ℕ} {o c : ℕ} (so : Passing s old at o) (l : Looked s at new c) where
-  few_new : passed_of new ≤ end_of new
-  few_new = let a = so.few in let b = look_later l in let e = l.passed in omega arith
+-- a way past a block from the same place on, and in the same text
+pub forked_past : {from at new : Cursor} → at ≡ from → PastBlock at.text at new → PastBlock from.text from new
+forked_past {new = new} e x = subst (λ (a : Cursor). PastBlock a.text a new) e x
 
-  ends : past (tokens s (end_of at)) o (passed_of at) ≡ beyond (passed_of at) (tokens s (end_of new)) → PastBlock s old new
+pub past_on : {s : List ℕ} {at new : Cursor} → at.text ≡ s → PastBlock at.text at new → PastBlock s at new
+past_on {at = at} {new} e x = subst (λ (t : List ℕ). PastBlock t at new) e x
+
+module _ {s : List ℕ} {old at new : Cursor} {o : ℕ} {w : Said} (so : Passing s old at o) (l : Looked s at new w) where
+  ends : past (tokens s at.end) o at.passed ≡ beyond at.passed (tokens s new.end) → PastBlock s old new
   ends e = record {
-    same = so.same ∙ e ∙ ap (λ (n : ℕ). beyond n (tokens s (end_of new))) (sym l.passed);
-    within = look_within l;
-    few = few_new;
+    text = l.text;
+    same = so.same ∙ e ∙ ap (λ (n : ℕ). beyond n (tokens s new.end)) (sym l.passed);
   }
 
-  pub past_nothing : c ≡ nothing_code → PastBlock s old new
-  past_nothing e = ends (ap (λ (ws : List Token). past ws o (passed_of at)) (look_none l e) ∙ ap (beyond (passed_of at)) (sym (end_none l e)))
+  pub past_nothing : w ≡ said.End → PastBlock s old new
+  past_nothing e = ends (ap (λ (ws : List Token). past ws o at.passed) (look_none l e) ∙ ap (beyond at.passed) (sym (end_none l e)))
 
-  module _ (e : c ≡ close_code) where
-    read_close : tokens s (end_of at) ≡ Close ∷ tokens s (end_of new)
-    unfolding token_of
-    read_close = look_some l (λ z. omega arith) ∙ rw e
+  module _ (e : w ≡ said.Close) where
+    read_close : tokens s at.end ≡ Close ∷ tokens s new.end
+    read_close = look_some l (λ z. let two = sym z ∙ e in absurd cc) ∙ rw e
 
     pub past_last : o ≤ 1 → PastBlock s old new
-    past_last h = ends (ap (λ (ws : List Token). past ws o (passed_of at)) read_close ∙ close_last (tokens s (end_of new)) o (passed_of at) h)
+    past_last h = ends (ap (λ (ws : List Token). past ws o at.passed) read_close ∙ close_last (tokens s new.end) o at.passed h)
 
     pub past_inner : 1 < o → Passing s old new (o - 1)
     past_inner h =
         let a = so.less in
         let b = look_later l in
         record {
+          text = l.text;
           same =
               so.same
-              ∙ ap (λ (ws : List Token). past ws o (passed_of at)) read_close
-              ∙ close_inner (tokens s (end_of new)) o (passed_of at) h
-              ∙ ap (past (tokens s (end_of new)) (o - 1)) (sym l.passed);
-          within = look_within l;
-          few = few_new;
+              ∙ ap (λ (ws : List Token). past ws o at.passed) read_close
+              ∙ close_inner (tokens s new.end) o at.passed h
+              ∙ ap (past (tokens s new.end) (o - 1)) (sym l.passed);
           less = omega arith;
         }
 
   -- A WORD THAT MAY COUNT FOR A NODE
-  module _ (some : c ≡ nothing_code → ⊥) (no-close : c ≡ close_code → ⊥) {r : ℕ} (m : Makes c r) where
-    pub room : passed_of new + r ≤ end_of new
-    room = let a = so.few in let b = look_on l some in let e = l.passed in let f = m.few in omega arith
+  module _ (some : w ≡ said.End → ⊥) {r : ℕ} (few : r ≤ 1) where
+    pub room : new.passed + r ≤ new.end
+    room = let a = l.few in let b = look_on l some in let e = l.passed in omega arith
 
-    counts : {newer : List ℕ} (o' : ℕ) → Passed new r newer → o' ≤ o + 1
-        → past (token_of c (said_of new) ∷ tokens s (end_of new)) o (passed_of at) ≡ past (tokens s (end_of new)) o' (passed_of at + r)
+    counts : {newer : Cursor} (o' : ℕ) → Passed new r newer → o' ≤ o + 1
+        → past (token_of w ∷ tokens s new.end) o at.passed ≡ past (tokens s new.end) o' (at.passed + r)
         → Passing s old newer o'
     counts {newer} o' p h e =
         let a = so.less in
@@ -97,29 +92,25 @@ module _ {s old at new : List ℕ} {o c : ℕ} (so : Passing s old at o) (l : Lo
         let q = p.end in
         let f = p.passed in
         let g = l.passed in
-        let i = room in
-        let k = look_within l in
-        let n : passed_of at + r ≡ passed_of newer = omega arith in
+        let n : at.passed + r ≡ newer.passed = omega arith in
         record {
+          text = p.text ∙ l.text;
           same =
               so.same
-              ∙ ap (λ (ws : List Token). past ws o (passed_of at)) (look_some l some)
+              ∙ ap (λ (ws : List Token). past ws o at.passed) (look_some l some)
               ∙ e
               ∙ rw (q, n);
-          within = omega arith;
-          few = omega arith;
           less = omega arith;
         }
 
-    pub past_open : {newer : List ℕ} → Passed new r newer → c ≡ open_code → Passing s old newer (o + 1)
-    unfolding token_of
-    past_open p e =
-        let one : r ≡ 1 = m.same 0 ∙ rw e in
+    pub past_open : {newer : Cursor} → Passed new r newer → w ≡ said.Open → r ≡ 1 → Passing s old newer (o + 1)
+    past_open p e one =
         let up : suc o ≡ o + 1 = omega arith in
         counts (o + 1) p (omega arith) (rw (e, one, ← up))
 
-    pub past_other : {newer : List ℕ} → Passed new r newer → (c ≡ open_code → ⊥) → Passing s old newer o
-    past_other p no_open =
+    pub past_other : {newer : Cursor} → Passed new r newer → r ≡ makes (token_of w) → (w ≡ said.Open → ⊥) → (w ≡ said.Close → ⊥)
+        → Passing s old newer o
+    past_other p e no_open no-close =
         counts o p (omega arith)
-        (other_past c (said_of new) (tokens s (end_of new)) o (passed_of at) no_open no-close
-        ∙ ap (λ (k : ℕ). past (tokens s (end_of new)) o (passed_of at + k)) (sym (m.same (said_of new))))
+        (other_past w (tokens s new.end) o at.passed no_open no-close
+        ∙ ap (λ (k : ℕ). past (tokens s new.end) o (at.passed + k)) (sym e))

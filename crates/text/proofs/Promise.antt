@@ -1,9 +1,12 @@
 -- The promise of `text::listing`: every text has an answer, a refusal keeps the buffer, and two answers and contents that meet it are equal.
-use mathlib.Core.Path.{◌≡◌, refl, sym, ap, ap₂, ◌∙◌}
+use mathlib.Core.Path.{◌≡◌, refl, sym, ap, ◌∙◌}
 use mathlib.Core.List.{List}
 use Prim.Native.Nat.{ℕ}
 use native.Mathlib.Omega.{arith}
 use lib.ListN.{length}
+use Rattle.std.specs.Prelude.{Result, Ok, Err}
+use Rattle.listing.specs.declared.reason.Reason.{Reason}
+use Rattle.listing.proofs.Reasons.{reasons_apart}
 use Rattle.listing.specs.Rules.{Refusal, passed, refused, first_of}
 use Rattle.listing.specs.Answer.{Answer, done, refusal, filled}
 use Rattle.grammar.specs.Tree.{Text}
@@ -11,8 +14,6 @@ use Rattle.grammar.specs.Stands.{TreeOf}
 use Rattle.grammar.specs.Inner.Reader.{Outcome, tree, bad, parse}
 use Rattle.grammar.proofs.Places.{tree_found, bad_found, found_tree, found_bad}
 use Rattle.text.specs.Typing.{typed_rules, listing_of, typed_says, Typed, bad as bad-text, refuses, writes}
-use Rattle.text.specs.declared.TypedAnswer.{TypedAnswer}
-use Rattle.text.specs.declared.TypedAnswer.TheVariants.{Written, Refused}
 
 -- ── What is answered, worked out ────────────────────────────────────────────
 unfoldable pub by_rules : Refusal → Text → List ℕ → Answer × List ℕ
@@ -45,11 +46,11 @@ reply_only s old a l (writes t h e) =
     ap (λ (o : Outcome). reply o (length old) old) (tree_found s t h) ∙ ap (λ (r : Refusal). by_rules r t old) e
 
 -- two answers that say the same are the same
-says_once : (r r' : TypedAnswer) → typed_says r ≡ typed_says r' → r ≡ r'
-says_once (Written n) (Written m) e = ap Written (ap (λ (x : Answer). x.count) e)
-says_once (Written n) (Refused k p) e = let z : ◌≡◌ {A = ℕ} 0 2 = ap (λ (x : Answer). x.kind) e in absurd (omega arith)
-says_once (Refused k p) (Written n) e = let z : ◌≡◌ {A = ℕ} 2 0 = ap (λ (x : Answer). x.kind) e in absurd (omega arith)
-says_once (Refused k p) (Refused j q) e = ap₂ Refused (ap (λ (x : Answer). x.first) e) (ap (λ (x : Answer). x.second) e)
+says_once : (r r' : Result ℕ Reason) → typed_says r ≡ typed_says r' → r ≡ r'
+says_once (Ok n) (Ok m) e = ap Ok (ap (λ (x : Answer). x.count) e)
+says_once (Ok n) (Err r) e = let z : ◌≡◌ {A = ℕ} 0 2 = ap (λ (x : Answer). x.kind) e in absurd (omega arith)
+says_once (Err r) (Ok n) e = let z : ◌≡◌ {A = ℕ} 2 0 = ap (λ (x : Answer). x.kind) e in absurd (omega arith)
+says_once (Err r) (Err q) e = ap Err (reasons_apart r q (ap (λ (x : Answer). x.first) e) (ap (λ (x : Answer). x.second) e))
 
 -- ── The promise ─────────────────────────────────────────────────────────────
 -- EVERY TEXT HAS AN ANSWER
@@ -72,7 +73,7 @@ typed_once s old a b l m x y =
     (ap (λ (z : Answer × List ℕ). z.0) e, ap (λ (z : Answer × List ℕ). z.1) e)
 
 -- AND SO OF THE ANSWERS OF `text::listing` ITSELF
-pub listing_once : (s old new new' : List ℕ) (r r' : TypedAnswer)
+pub listing_once : (s old new new' : List ℕ) (r r' : Result ℕ Reason)
     → Typed s old (typed_says r) new → Typed s old (typed_says r') new' → (r ≡ r') × (new ≡ new')
 listing_once s old new new' r r' x y =
     let e = typed_once s old (typed_says r) (typed_says r') new new' x y in

@@ -1,33 +1,45 @@
 -- The writer's ways: word by word, up to the text's end.
-use mathlib.Core.Path.{◌≡◌, refl, ap, ◌∙◌}
+use mathlib.Core.Path.{◌≡◌, refl, ap, ◌∙◌, subst}
 use mathlib.Core.List.{List, [], ◌++◌, append_assoc, append-nil}
 use Prim.Native.Nat.{ℕ, ◌+◌, ◌%◌, ◌<◌, ◌≤◌}
 use native.Mathlib.Omega.{arith}
 use native.Mathlib.Decide.{ℕ_discrete, dec_lt}
 use lib.ListN.{length, length-append}
 use borrow.Author.Tests.{eq-eqb, ne_eqb, lt-ltb, le-ltb}
+use Rattle.listing.specs.declared.kind.Kind.{Kind}
 use Rattle.words.specs.Words.{Token, Routine, Loop, Either, Open, Close, Fence, Access, Number, Other}
-use Rattle.words.specs.Inner.Looking.{nothing_code, loop_code, either_code, close_code, fence_code, access_code, token_of}
-use Rattle.grammar.specs.Inner.Reader.{end_of, said_of, Looked}
-use Rattle.grammar.proofs.Moves.{each}
+use Rattle.words.specs.declared.Word.{Word as Said}
+use Rattle.words.specs.declared.Word.TheVariants as said
+use Rattle.words.specs.Inner.Looking.{token_of}
+use Rattle.grammar.specs.Inner.Reader.{Cursor, cursor, Looked}
 use Rattle.text.specs.Inner.Records.{Low}
 use Rattle.text.specs.Inner.Pen.{tokens, pen, nodes_at, closed, after, run, written}
-use Rattle.text.specs.Inner.Writer.{WordAt, WordWritten, TextWrites, TextWritten}
-use Rattle.text.specs.declared.writer.Pen.{Pen}
+use Rattle.text.specs.Inner.Writer.{WordWritten, TextWrites, TextWritten}
+use Rattle.text.specs.declared.pen.Pen.{Pen}
 use Rattle.text.proofs.Every.{all_apart}
-use Rattle.text.proofs.Records.{in_turn}
-use Rattle.text.proofs.Looks.{look_none, look_some, look_within, look_on}
+use Rattle.text.proofs.Records.{in_turn, room_for, still}
+use Rattle.text.proofs.Looks.{look_none, look_some, look_on}
 use Rattle.text.proofs.Wrote.{none_written}
 
 -- ── One word ────────────────────────────────────────────────────────────────
--- a word that is neither an access nor a fence nor one of a loop or an either or a `}`
-pub other_written : {old : List ℕ} (c v : ℕ) {p : Pen} {ws : List Token} → (c ≡ access_code → ⊥) → (c ≡ fence_code → ⊥)
-    → (c ≡ loop_code → ⊥) → (c ≡ either_code → ⊥) → (c ≡ close_code → ⊥) → WordWritten old old p p (token_of c v) ws
+-- the word k is neither an access nor a fence nor one of a loop or an either or a `}`
+pub record Unwritten (k : Said) : Type 0 where
+  pub access : (j : Kind) → k ≡ said.Access j → ⊥
+  pub fence : k ≡ said.Fence → ⊥
+  pub loop : k ≡ said.Loop → ⊥
+  pub either : k ≡ said.Either → ⊥
+  pub close : k ≡ said.Close → ⊥
+
+pub other_written : {old : List ℕ} {p : Pen} {ws : List Token} (k : Said) → Unwritten k → WordWritten old old p p (token_of k) ws
 unfolding nodes_at after
-other_written {old} c v {p} {ws} no_access no-fence no_loop no-either no-close =
-    each (λ w. WordWritten old old p p w ws) c v (λ _. none_written refl refl) (λ h. absurd (no_loop h))
-    (λ h. absurd (no-either h)) (λ _. none_written refl refl) (λ h. absurd (no-close h)) (λ h. absurd (no-fence h)) (λ h. absurd (no_access h))
-    (λ _. none_written refl refl) (none_written refl refl)
+other_written {old} {p} {ws} k = elim k as (λ j. Unwritten j → WordWritten old old p p (token_of j) ws) [
+  | said.Access j ↦ λ h. absurd (h.access j refl)
+  | said.Fence ↦ λ h. absurd (h.fence refl)
+  | said.Loop ↦ λ h. absurd (h.loop refl)
+  | said.Either ↦ λ h. absurd (h.either refl)
+  | said.Close ↦ λ h. absurd (h.close refl)
+  | _ ↦ λ h. none_written refl refl
+]
 
 -- ── How far the pen goes on ─────────────────────────────────────────────────
 -- by a node at the most, and by a part at the most
@@ -79,64 +91,58 @@ goes_on p (Number n) ws = no_node refl refl (omega arith)
 goes_on p Other ws = no_node refl refl (omega arith)
 
 -- ── The text ────────────────────────────────────────────────────────────────
-pub text_starts : {s old : List ℕ} (at : List ℕ) → end_of at ≡ 0 → TextWrites s old old at (pen 0 0 0)
+pub text_starts : {s old : List ℕ} → TextWrites s old old (cursor s 0 0 0) (pen 0 0 0)
 unfolding written
-text_starts at e = record {
+text_starts = record {
+  text = refl;
   done = [];
   count = refl;
-  same = rw e;
-  kept = refl;
-  bytes = λ _ _. record { bytes = refl };
-  within = omega arith;
+  same = refl;
+  wrote = record { kept = refl; bytes = λ _ _. record { bytes = refl } };
   few = omega arith;
   parted = omega arith;
 }
 
-module _ {s old now at new : List ℕ} {p : Pen} {c : ℕ} (so : TextWrites s old now at p) (l : Looked s at new c) where
-  pub text_ends : c ≡ nothing_code → TextWritten s old now
+module _ {s old now : List ℕ} {at new : Cursor} {p : Pen} {k : Said} (so : TextWrites s old now at p) (l : Looked s at new k) where
+  pub text_ends : k ≡ said.End → TextWritten s old now
   text_ends e =
       let all : written s ≡ so.done =
       so.same ∙ ap (λ (ws : List Token). so.done ++ run p ws) (look_none l e) ∙ append-nil so.done in
-      let count = so.count in
-      record { bytes = rw all (λ room low. so.bytes (omega arith) low) }
+      record { wrote = rw all so.wrote }
 
-  module _ (some : c ≡ nothing_code → ⊥) where
-    pub word_at : WordAt s (end_of new) p
-    word_at =
-        let on = look_on l some in
-        let few = so.few in
-        let parted = so.parted in
-        record { within = look_within l; few = omega arith; parted = omega arith }
-
+  module _ (some : k ≡ said.End → ⊥) where
     -- ONE WORD MORE IS WRITTEN
-    pub word_written : {q : Pen} {now' : List ℕ} → WordWritten now now' p q (token_of c (said_of new)) (tokens s (end_of new))
-        → TextWrites s old now' new q
-    word_written {q} {now'} x =
-        let w = token_of c (said_of new) in
-        let ws = tokens s (end_of new) in
+    pub word_written : {q : Pen} {now' : List ℕ} → WordWritten now now' p q (token_of k) (tokens new.text new.end) → TextWrites s old now' new q
+    word_written {q} {now'} x' =
+        let x = subst (λ (t : List ℕ). WordWritten now now' p q (token_of k) (tokens t new.end)) l.text x' in
+        let w = token_of k in
+        let ws = tokens s new.end in
         let nodes = nodes_at p w ws in
         let g = goes_on p w ws in
         let number : q.number ≡ p.number + length nodes = ap (λ (r : Pen). r.number) x.goes ∙ g.count in
         let parts : q.parts ≤ p.parts + 1 = rw x.goes g.parted in
         let long = length-append so.done nodes in
         let count = so.count in
-        let kept = so.kept in
+        let kept = so.wrote.kept in
         let on = look_on l some in
         let few = so.few in
         let most = g.few in
         let parted = so.parted in
         record {
+          text = l.text;
           done = so.done ++ nodes;
           count = omega arith;
           same =
               so.same
               ∙ ap (λ (v : List Token). so.done ++ run p v) (look_some l some)
               ∙ rw (append_assoc, x.goes);
-          kept = x.kept ∙ so.kept;
-          bytes = λ room low.
-              let (before, now-low) = all_apart Low so.done nodes low in
-              in_turn (so.bytes (omega arith) before) (x.bytes (omega arith) now-low) (omega arith);
-          within = look_within l;
+          wrote = record {
+            kept = x.wrote.kept ∙ kept;
+            bytes = λ room low.
+                let (before, now-low) = all_apart Low so.done nodes low in
+                let long' : p.number + length nodes ≡ 0 + length (so.done ++ nodes) = omega arith in
+                in_turn (so.wrote.bytes (room_for 0 so.done nodes room) before) (x.wrote.bytes (still kept (rw long' room)) now-low) (omega arith);
+          };
           few = omega arith;
           parted = omega arith;
         }

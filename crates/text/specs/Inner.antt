@@ -1,4 +1,4 @@
 pub mod Records
 pub mod Pen
 pub mod Writer
-pub mod Decided
+pub mod Counted

@@ -1,13 +1,13 @@
 -- The promise of `text::listing(text, out)`.
-use Rattle.std.specs.Prelude.{◌≡◌, ◌||◌, List, [], ◌∷◌, ℕ, length, eqb, ltb}
+use Rattle.std.specs.Prelude.{◌≡◌, ◌||◌, List, [], ◌∷◌, ℕ, length, eqb, ltb, Result, Ok, Err}
 use Rattle.listing.specs.Limits.{ROUTINES, NODES}
 use Rattle.listing.specs.Bytes.{record_at, bytes_of}
 use Rattle.listing.specs.Rules.{Rule, rule, passed, refused, first_of}
 use Rattle.listing.specs.Answer.{Answer, done, refusal, filled}
+use Rattle.listing.specs.Reason.{refused_for}
+use Rattle.listing.specs.declared.reason.Reason.{Reason}
 use Rattle.grammar.specs.Tree.{Text, parts_of, size_of, nodes_of}
 use Rattle.grammar.specs.Stands.{BadText, TreeOf}
-use Rattle.text.specs.declared.TypedAnswer.{TypedAnswer}
-use Rattle.text.specs.declared.TypedAnswer.TheVariants.{Written, Refused}
 
 -- "17 [..] before 5; then 5, 6 and 16": what is refused of a text that has the tree t, with a buffer of `room` bytes.
 -- "a text without words is 5", as is one of more than 16 parts
@@ -22,10 +22,10 @@ typed_rules t room =
 unfoldable pub listing_of : Text → List ℕ
 listing_of t = bytes_of 1 (parts_of t) (nodes_of t)
 
--- the rules' number and values for each case of the answer: the length written, or number and place
-abbrev pub typed_says : TypedAnswer → Answer
-typed_says (Written n) = done 0 0 n
-typed_says (Refused k p) = refusal k p
+-- the rules' number and values for each case of the answer: the length written, or the refusal
+abbrev pub typed_says : Result ℕ Reason → Answer
+typed_says (Ok n) = done 0 0 n
+typed_says (Err r) = refused_for r
 
 -- what is answered of the text s, and what the lent buffer, which held `old`, holds then
 pub data Typed (s old : List ℕ) : Answer → List ℕ → Type 0 where

@@ -6,6 +6,7 @@ use native.Mathlib.Omega.{arith}
 use lib.ListN.{length, take, drop, length-append}
 use lib.Seq.{take-append_seam}
 use borrow.Author.Tests.{ltb-false}
+use Rattle.std.specs.Prelude.{Result, Ok, Err}
 use Rattle.listing.specs.Limits.{NODES}
 use Rattle.listing.specs.Bytes.{record_at}
 use Rattle.listing.specs.Rules.{passed, first_of}
@@ -14,8 +15,8 @@ use Rattle.listing.proofs.Table.{none_applies}
 use Rattle.listing.proofs.RoundTrip.{bytes_length}
 use Rattle.grammar.specs.Tree.{Text, size_of, parts_of, nodes_of}
 use Rattle.text.specs.Typing.{typed_rules, listing_of, typed_says, Typed, bad, refuses, writes}
-use Rattle.text.specs.declared.TypedAnswer.{TypedAnswer}
-use Rattle.text.specs.declared.TypedAnswer.TheVariants.{Written, Refused}
+use Rattle.listing.specs.Reason.{number, place}
+use Rattle.listing.specs.declared.reason.Reason.{Reason}
 use Rattle.text.proofs.Counts.{text_count}
 use Rattle.say.specs.Lines.{refusal_line}
 use Rattle.typing.specs.Output as out
@@ -35,7 +36,7 @@ module _ (s old new : List ℕ) (room : length old ≡ record_at NODES) where
       let l = ltb-false (length old) (record_at (size_of t)) rows.1.1.0 in
       omega (arith, bytes_length 1 (parts_of t) (nodes_of t), text_count t, l)
 
-  pub shows : (a : TypedAnswer) (n : ℕ) → Typed s old (typed_says a) new → a ≡ Written n → Shows s new n
+  pub shows : (a : Result ℕ Reason) (n : ℕ) → Typed s old (typed_says a) new → a ≡ Ok n → Shows s new n
   shows a n h e = go (typed_says a) new h (ap typed_says e)
     where
       go : (x : Answer) (m : List ℕ) → Typed s old x m → x ≡ done 0 0 n → Shows s m n
@@ -53,9 +54,15 @@ module _ (s old new : List ℕ) (room : length old ≡ record_at NODES) where
           }
 
   -- WHAT IS REFUSED IS SAID
-  pub tells : (a : TypedAnswer) (k p : ℕ) → Typed s old (typed_says a) new → a ≡ Refused k p → out.TypedOutput s (refusal_line k p)
-  tells a k p h e = go (typed_says a) new h (ap typed_says e)
+  pub tells : (a : Result ℕ Reason) (r : Reason) → Typed s old (typed_says a) new → a ≡ Err r → out.TypedOutput s (refusal_line (number r) (place r))
+  tells a reason h e = go (typed_says a) new h (ap typed_says e)
     where
+      abbrev k : ℕ
+      k = number reason
+
+      abbrev p : ℕ
+      p = place reason
+
       go : (x : Answer) (m : List ℕ) → Typed s old x m → x ≡ refusal k p → out.TypedOutput s (refusal_line k p)
       go x m (bad p' b) q =
           let k-is : 17 ≡ k = ap (λ (y : Answer). y.first) q in

@@ -6,9 +6,9 @@ ghost use Rattle.io.specs.Counts.{IsPrefixLen};
 ghost use Rattle.typing.specs.Output.{TypedPromise};
 ghost use Rattle.typing.specs.Output.{TEXT as Output-as-TEXT};
 
+use lines::Line;
 use listing::Listing;
 use say::LINE;
-use text::TypedAnswer;
 
 // The longest text that the program reads, 1 MiB.
 pub const TEXT: usize = 1048576;
@@ -27,7 +27,11 @@ pub fn typed(text: &[u8], out: &mut [u8; LINE]) -> usize
 {
     let mut bytes = [0u8; Listing::LONGEST];
     match text::listing(text, &mut bytes) {
-        TypedAnswer::Written(length) => lines::words(out, 0, &bytes[..length]),
-        TypedAnswer::Refused { number, place } => say::refused(out, number, place),
+        Ok(length) => {
+            let mut line = Line::new(out);
+            line.words(&bytes[..length]);
+            line.end
+        }
+        Err(reason) => say::refused(out, reason),
     }
 }

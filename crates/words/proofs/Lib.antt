@@ -1,4 +1,4 @@
-pub mod Compared
+pub mod Same
 pub mod Digits
 pub mod Telling
 pub mod Finding

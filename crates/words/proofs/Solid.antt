@@ -15,7 +15,7 @@ use Rattle.listing.proofs.Bools.{and_both}
 use Rattle.words.specs.Words.{Token, Routine, Loop, Either, Open, Close, Fence, Access, Number, Other, DIGITS, word_at, words, begins}
 use Rattle.words.specs.Words.{is_blank, is_digit, all_digits, value_from, number, same, meaning}
 use Rattle.words.specs.Runs.{Each}
-use Rattle.words.proofs.Compared.{same_is}
+use Rattle.words.proofs.Same.{same_is}
 use Rattle.words.proofs.Digits.{from_zero_on}
 use Rattle.words.proofs.Finding.{one_word}
 

@@ -5,79 +5,49 @@ mod tell;
 
 ghost use Rattle.std.specs.Prelude.{◌≡◌, ◌≤◌, length};
 ghost use Rattle.words.specs.Words.{is_blank};
-ghost use Rattle.words.specs.Inner.Looking.{Ahead, Skips, WordEnds};
+ghost use Rattle.words.specs.Inner.Looking.{Ahead, Until};
 
-// A word that was found: what it says, the number it says it of, and where it starts and ends.
+use listing::Kind;
+
+// What a word says, or that no word is left.
+#[derive(Clone, Copy)]
+pub enum Word {
+    End,
+    Routine,
+    Loop,
+    Either,
+    Open,
+    Close,
+    Fence,
+    Access(Kind),
+    Number(usize),
+    Other,
+}
+
+// A word that was found: what it says, and where it starts and ends.
 #[derive(Drop)]
 pub struct Found {
-    pub code: u8,
-    pub value: usize,
+    pub word: Word,
     pub start: usize,
     pub end: usize,
 }
 
-// The codes of what words say, and of no word.
-pub const NOTHING: u8 = 0;
-
-pub const ROUTINE: u8 = 1;
-
-pub const LOOP: u8 = 2;
-
-pub const EITHER: u8 = 3;
-
-pub const OPEN: u8 = 4;
-
-pub const CLOSE: u8 = 5;
-
-pub const FENCE: u8 = 6;
-
-pub const ACCESS: u8 = 7;
-
-pub const NUMBER: u8 = 8;
-
-pub const OTHER: u8 = 9;
-
+#[tactic(auto, unfolding(crate::specs::Words::is_blank))]
 fn is_blank(b: u8) -> bool
     ensures { result ≡ is_blank b }
 {
-    if b == b' ' {
-        return true;
-    }
-    if b == b'\r' {
-        return true;
-    }
-    b == b'\n'
+    matches!(b, b' ' | b'\r' | b'\n')
 }
 
-// Past the blanks at `at`.
-fn skip(s: &[u8], at: usize) -> usize
+// Where the first byte from `at` on stands that is a blank, or that is none; or the text's end.
+fn first(s: &[u8], at: usize, blank: bool) -> usize
     requires { at ≤ length s.now }
-    ensures { Skips s.now at result }
+    ensures { Until s.now at blank result }
 {
-    let mut i = at;
-    while i < s.len() {
-        if is_blank(s[i]) {
-            i += 1;
-        } else {
-            return i;
-        }
+    match s[at..].iter().position(|b| is_blank(*b) == blank) {
+        Some(n) => at + n,
+        None => s.len(),
     }
-    i
-}
-
-// Past the word at `at`.
-fn word_end(s: &[u8], at: usize) -> usize
-    requires { at ≤ length s.now }
-    ensures { WordEnds s.now at result }
-{
-    let mut i = at;
-    while i < s.len() {
-        if is_blank(s[i]) {
-            return i;
-        }
-        i += 1;
-    }
-    i
 }
 
 // The first word of the text from `at` on.
@@ -85,20 +55,17 @@ pub fn next(s: &[u8], at: usize) -> Found
     requires { at ≤ length s.now }
     ensures { Ahead s.now at result }
 {
-    let start = skip(s, at);
+    let start = first(s, at, false);
     if s.len() <= start {
         return Found {
-            code: NOTHING,
-            value: 0,
+            word: Word::End,
             start,
             end: start,
         };
     }
-    let end = word_end(s, start);
-    let w = tell::meaning(&s[start..end]);
+    let end = first(s, start, true);
     Found {
-        code: w.code,
-        value: w.value,
+        word: tell::meaning(&s[start..end]),
         start,
         end,
     }

@@ -22,4 +22,5 @@ returns c =
     let fence = number_of c.args.fence in
     let firsts = c.gather-firsts.ensures.members (λ k. looks_first fence k) (λ k r p. search rules) in
     let others = c.gather-others.ensures.members (λ k. not (looks_second fence k)) (λ k r p. search rules) in
-    past_kept (asked c.args.question) fence (counted n.whole) _ _ _ _ _ firsts others c.clear_rows.ensures.clear c.requires (rw n.count.0 at c.keep_rows.ensures)
+    past_kept (asked c.args.question) fence (counted n.whole) _ _ _ _ _ firsts others c.clear_rows.ensures.clear c.requires
+    (rw n.count.0 at c.keep_rows.ensures)

@@ -8,5 +8,5 @@ descend-requires c =
 
 pub returns : goal.returns
 returns c =
-    rw c.wide.ensures.0
+    rw c.from.ensures
     (shown _ _ _ _ _ _ _ _ c.requires c.compose.ensures c.distances.ensures _ c.descend.ensures)

@@ -39,10 +39,10 @@ pub data Fate (v u r : ℕ) (A : Type 0) : Type 0 where
   without : v ≡ unreached → u ≡ unreached → (A → ⊥) → Fate v u r A
   given : v ≡ unreached → u ≡ r + 1 → A → Fate v u r A
 
--- the nodes from b on and below n are looked at: c of them are given their distance
-pub record Swept (A : ℕ → Type 0) (b n : ℕ) (d e : List ℕ) (r c : ℕ) : Type 0 where
+-- the nodes from b on and below n are looked at; found tells whether any of them is given its distance
+pub record Swept (A : ℕ → Type 0) (b n : ℕ) (d e : List ℕ) (r : ℕ) (found : Bool) : Type 0 where
   pub fate : (x : ℕ) → b ≤ x → x < n → Fate (get_or d x 0) (get_or e x 0) r (A x)
   pub same : (x : ℕ) → (b ≤ x → x < n → ⊥) → get_or e x 0 ≡ get_or d x 0
-  pub count : c + unset e ≡ unset d
-  pub still : c ≡ 0 → e ≡ d
-  pub few : c + b ≤ n
+  pub fewer : found ≡ true → unset e < unset d
+  pub still : found ≡ false → e ≡ d
+  pub low : b ≤ n

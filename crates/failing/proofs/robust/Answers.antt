@@ -1,12 +1,9 @@
 -- `failing::robust` meets its contract.
 use mathlib.Core.Path.{sym}
-use Rattle.listing.specs.Bytes.{nodes_of}
 use Rattle.listing.proofs.Nodes.{nodes_length}
 use Rattle.failing.proofs.Searching.{robust_told}
 use Rattle.failing.proofs.robust.Goals as goal
 
 pub returns : goal.returns
 returns c =
-    let a = c.args in
-    let size = sym (nodes_length a.bytes.now) in
-    rw c.node_count.ensures.0 (robust_told a.question (nodes_of a.bytes.now) _ _ _ size c.next_failing-found.ensures)
+    robust_told _ _ _ (sym (nodes_length c.args.listing.now)) c.next.result _ c.is_none.ensures (rw c.new.ensures at c.next.ensures)

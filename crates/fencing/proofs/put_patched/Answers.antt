@@ -14,14 +14,13 @@ use Rattle.fencing.proofs.put_patched.Goals as goal
 pub returns : goal.returns
 returns c =
     let a = c.args in
-    let s = a.s.now in
+    let s = a.listing.now in
     let bytes = a.map.now in
     let many = nodes_length s in
     let room : record_at (length (nodes_of s) + places (marks_of bytes)) ≤ length a.out.now = omega (arith, c.requires.1) in
-    let number = c.places.ensures.0 in
-    let count : c.node_count.result + c.places.result ≡ length (nodes_of s) + places (marks_of bytes) = omega arith in (
+    let count : c.nodes.result + c.places.result ≡ length (nodes_of s) + places (marks_of bytes) = omega (arith, c.places.ensures.0, c.nodes.ensures.count) in (
       omega arith,
       all_put (version_of s) (count_f s) (nodes_of s) (marks_of bytes) a.out.now (mapped s bytes c.requires.0) room
-          c.version-version.ensures.0 c.routine_count-routines.ensures count (sym many)
+          c.version-version.ensures.0 c.routines-routines.ensures count (sym many)
           c.put_heading.ensures c.put_nodes.ensures c.put_fences-end.ensures.1,
     )

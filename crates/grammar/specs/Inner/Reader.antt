@@ -1,12 +1,16 @@
 -- The executable grammar, in which each word leads from a state to the next or can't stand, and what the readers say of it.
-use Rattle.std.specs.Prelude.{◌≡◌, Bool, true, false, cond, List, [], ◌∷◌, ℕ, suc, ◌+◌, ◌<◌, ◌≤◌, length, get_or, ltb}
+use Rattle.std.specs.Prelude.{◌≡◌, cond, List, [], ◌∷◌, ℕ, suc, ◌+◌, ◌<◌, ◌≤◌, length, ltb, Result, Ok, Err}
+use Rattle.listing.specs.declared.reason.Reason.{Reason}
+use Rattle.listing.specs.declared.reason.Reason.TheVariants as reasons
 use Rattle.words.specs.Words.{Token, Routine, Loop, Either, Open, Close, Fence, Access, Number, Other}
-use Rattle.words.specs.Inner.Looking.{Mark, close_code, unread, ahead, Place, Ahead}
+use Rattle.words.specs.Inner.Looking.{Mark, unread, ahead, Place, Ahead}
 use Rattle.words.specs.declared.Found.{Found}
+use Rattle.words.specs.declared.Word.{Word as Said}
+use Rattle.words.specs.declared.Word.TheVariants as said
 use Rattle.grammar.specs.Tree.{Item, access, fence, loop, either, Block, one, also, Text, nothing, part, DEPTH, item_size, block_size}
 use Rattle.grammar.specs.Tree.{ItemWithin, BlockWithin, parts_of, size_of}
-use Rattle.grammar.specs.declared.Step.{Step}
-use Rattle.grammar.specs.declared.Step.TheVariants.{At, Bad}
+use Rattle.grammar.specs.declared.Size.{Size}
+use Rattle.grammar.specs.declared.reader.Misplaced.{Misplaced}
 
 -- the items of a block read so far
 pub data SoFar : Type 0 where
@@ -146,45 +150,56 @@ parse s = from s (between nothing) 0
 abbrev pub Levels : Outside → ℕ → Type 0
 Levels a depth = deep a + depth ≡ DEPTH
 
--- the numbers that the readers keep: where the word looked at last starts and ends, how many nodes were passed, and the number that the
--- word says
-abbrev pub start_of : List ℕ → ℕ
-start_of at = get_or at 0 0
+-- one level deeper than `depth` is one fewer, if any
+abbrev pub Deeper : ℕ → Result ℕ Misplaced → Type 0
+Deeper depth (Ok left) = depth ≡ left + 1
+Deeper depth (Err _) = depth ≡ 0
 
-abbrev pub end_of : List ℕ → ℕ
-end_of at = get_or at 1 0
+-- where a reader of a text is: where the word looked at last starts and ends, and how many nodes were passed
+pub record Cursor : Type 0 where
+  pub text : List ℕ
+  pub start : ℕ
+  pub end : ℕ
+  pub passed : ℕ
 
-abbrev pub passed_of : List ℕ → ℕ
-passed_of at = get_or at 2 0
+abbrev pub cursor : List ℕ → ℕ → ℕ → ℕ → Cursor
+cursor s b e n = record { text = s; start = b; end = e; passed = n }
 
-abbrev pub said_of : List ℕ → ℕ
-said_of at = get_or at 3 0
+-- the word looked at last
+abbrev pub word_of : Said → Cursor → Found
+word_of w at = record { word = w; start = at.start; end = at.end }
 
--- the word looked at last, of code c
-abbrev pub word_of : ℕ → List ℕ → Found
-word_of c at = record { code = c; value = said_of at; start = start_of at; end = end_of at }
-
--- looking at the next word finds the code c
-pub record Looked (s old new : List ℕ) (c : ℕ) : Type 0 where
-  pub ahead : Ahead s (end_of old) (word_of c new)
-  pub passed : passed_of new ≡ passed_of old
+-- looking at the next word finds w; a reader has passed no more nodes than bytes
+pub record Looked (s : List ℕ) (old new : Cursor) (w : Said) : Type 0 where
+  pub text : new.text ≡ s
+  pub ahead : Ahead s old.end (word_of w new)
+  pub passed : new.passed ≡ old.passed
+  pub few : old.passed ≤ old.end
+  pub fits : new.end < 18446744073709551616
 
 -- so many nodes more are passed, and no word is looked at
-pub record Passed (old : List ℕ) (n : ℕ) (new : List ℕ) : Type 0 where
-  pub start : start_of new ≡ start_of old
-  pub end : end_of new ≡ end_of old
-  pub passed : passed_of new ≡ passed_of old + n
+pub record Passed (old : Cursor) (n : ℕ) (new : Cursor) : Type 0 where
+  pub text : new.text ≡ old.text
+  pub start : new.start ≡ old.start
+  pub end : new.end ≡ old.end
+  pub passed : new.passed ≡ old.passed + n
+
+-- the next word was looked at: one that must be next, or another, which can't stand there
+abbrev pub Met : (Said → Type 0) → List ℕ → Cursor → Cursor → Result Unit Misplaced → Type 0
+Met P s old new (Ok _) = (w : Said) × Looked s old new w × P w
+Met P s old new (Err _) = (w : Said) × Looked s old new w × (P w → ⊥)
+
+abbrev pub IsOpen : Said → Type 0
+IsOpen w = w ≡ said.Open
+
+abbrev pub IsNumber : Said → Type 0
+IsNumber w = (n : ℕ) × (w ≡ said.Number n)
 
 -- the first word of an item was looked at, or no word is left; the nodes passed so far are fewer than the bytes before it
-pub record ItemAhead (s : List ℕ) (c : ℕ) (at : List ℕ) : Type 0 where
-  pub found : Place s (word_of c at)
-  pub going : c ≡ close_code → ⊥
-  pub passed : passed_of at < start_of at
-
--- a block is next, and the nodes passed so far are no more than the bytes before it
-pub record BlockAhead (s at : List ℕ) : Type 0 where
-  pub within : end_of at ≤ length s
-  pub passed : passed_of at ≤ end_of at
+pub record ItemAhead (s : List ℕ) (w : Said) (at : Cursor) : Type 0 where
+  pub found : Place s (word_of w at)
+  pub going : w ≡ said.Close → ⊥
+  pub passed : at.passed < at.start
 
 -- one item stands between the word w and place e, with `depth` levels left: it leads every block that it can stand in from the one to
 -- the other
@@ -198,26 +213,28 @@ pub record BlockSpan (s : List ℕ) (at depth : ℕ) (b : Block) (e : ℕ) : Typ
   pub same : (a : Outside) → Levels a depth → from s (opening a) at ≡ from s (closed b a) e
 
 -- what the item reader says of the item whose first word was looked at: it is read, or the word looked at last can't stand
-abbrev pub ItemRead : List ℕ → ℕ → ℕ → List ℕ → List ℕ → Bool → Type 0
-ItemRead s c depth old new true =
+abbrev pub ItemRead : List ℕ → Said → ℕ → Cursor → Cursor → Result Unit Misplaced → Type 0
+ItemRead s w depth old new (Ok _) =
     (i : Item)
-    × (passed_of new ≡ passed_of old + item_size i)
-    × (start_of old + item_size i ≤ end_of new)
-    × (end_of new ≤ length s)
-    × ItemSpan s (word_of c old) depth i (end_of new)
-ItemRead s c depth old new false =
-    (x : SoFar) (a : Outside) → Levels a depth → from_word s (inside x a) (word_of c old) ≡ bad (start_of new)
+    × (new.text ≡ s)
+    × (new.passed ≡ old.passed + item_size i)
+    × (old.start + item_size i ≤ new.end)
+    × (new.end ≤ length s)
+    × ItemSpan s (word_of w old) depth i new.end
+ItemRead s w depth old new (Err _) =
+    (new.text ≡ s) × ((x : SoFar) (a : Outside) → Levels a depth → from_word s (inside x a) (word_of w old) ≡ bad new.start)
 
 -- what the block reader says of the block whose `{` is next
-abbrev pub BlockRead : List ℕ → ℕ → List ℕ → List ℕ → Bool → Type 0
-BlockRead s depth old new true =
+abbrev pub BlockRead : List ℕ → ℕ → Cursor → Cursor → Result Unit Misplaced → Type 0
+BlockRead s depth old new (Ok _) =
     (b : Block)
-    × (passed_of new ≡ passed_of old + block_size b)
-    × (end_of old + block_size b + 2 ≤ end_of new)
-    × (end_of new ≤ length s)
-    × BlockSpan s (end_of old) depth b (end_of new)
-BlockRead s depth old new false =
-    (a : Outside) → Levels a depth → from s (opening a) (end_of old) ≡ bad (start_of new)
+    × (new.text ≡ s)
+    × (new.passed ≡ old.passed + block_size b)
+    × (old.end + block_size b + 2 ≤ new.end)
+    × (new.end ≤ length s)
+    × BlockSpan s old.end depth b new.end
+BlockRead s depth old new (Err _) =
+    (new.text ≡ s) × ((a : Outside) → Levels a depth → from s (opening a) old.end ≡ bad new.start)
 
 abbrev pub before_size : SoFar → ℕ
 before_size none = 0
@@ -227,26 +244,29 @@ abbrev pub BeforeWithin : SoFar → ℕ → Type 0
 BeforeWithin none d = Unit
 BeforeWithin (some b) d = BlockWithin b d
 
--- in the block whose `{` was next at `old`, some items are read, and the word after them was looked at and has the code c
-pub record BlockGoes (s : List ℕ) (depth : ℕ) (old at : List ℕ) (c : ℕ) : Type 0 where
+-- in the block whose `{` was next at `old`, some items are read, and the word w after them was looked at
+pub record BlockGoes (s : List ℕ) (depth : ℕ) (old at : Cursor) (w : Said) : Type 0 where
+  pub text : at.text ≡ s
   pub items : SoFar
-  pub nodes : passed_of at ≡ passed_of old + before_size items
+  pub nodes : at.passed ≡ old.passed + before_size items
   pub deep_so : BeforeWithin items depth
-  pub later : end_of old + 1 + before_size items ≤ start_of at
-  pub within : end_of old < length s
-  pub found : Place s (word_of c at)
-  pub same : (a : Outside) → Levels a depth → from s (opening a) (end_of old) ≡ from_word s (inside items a) (word_of c at)
+  pub few : old.passed ≤ old.end
+  pub later : old.end + 1 + before_size items ≤ at.start
+  pub within : old.end < length s
+  pub found : Place s (word_of w at)
+  pub same : (a : Outside) → Levels a depth → from s (opening a) old.end ≡ from_word s (inside items a) (word_of w at)
 
 -- what the reader says of a text: how many parts and nodes its tree has, or where it is bad
-abbrev pub TextRead : List ℕ → Step → Type 0
-TextRead s (At f n) = (t : Text) × (parts_of t ≡ f) × (size_of t ≡ n) × (parse s ≡ tree t)
-TextRead s (Bad p) = parse s ≡ bad p
+abbrev pub TextRead : List ℕ → Result Size Reason → Type 0
+TextRead s (Ok size) = (t : Text) × (parts_of t ≡ size.parts) × (size_of t ≡ size.nodes) × (parse s ≡ tree t)
+TextRead s (Err r) = (p : ℕ) × (r ≡ reasons.Text p) × (parse s ≡ bad p)
 
 -- f parts are read, of as many nodes as were passed
-pub record TextGoes (s at : List ℕ) (f : ℕ) : Type 0 where
+pub record TextGoes (s : List ℕ) (at : Cursor) (f : ℕ) : Type 0 where
+  pub of : at.text ≡ s
   pub text : Text
   pub parted : parts_of text ≡ f
-  pub nodes : size_of text ≡ passed_of at
-  pub few : f ≤ end_of at
-  pub ahead : BlockAhead s at
-  pub same : parse s ≡ from s (between text) (end_of at)
+  pub nodes : size_of text ≡ at.passed
+  pub few : f ≤ at.end
+  pub within : at.end ≤ length s
+  pub same : parse s ≡ from s (between text) at.end

@@ -22,7 +22,8 @@ pub record Seen (L : Listing) (routines found : List ℕ) (i : ℕ) : Type 0 whe
   pub each : (b : ℕ) → b < i → Has routines 0 (node L b).routine
   pub entries : Members found i (IsEntry L)
 
--- what is found is entered, and has every entry; its links lead to what is found, but for those of nodes still to be followed: what `waiting` has, and `at`, if it is some
+-- what is found is entered, and has every entry; its links lead to what is found, but for those of nodes still to be followed:
+-- what `waiting` has, and `at`, if there is one
 pub record Hunt (L : Listing) (n : ℕ) (found waiting : List ℕ) (at : Option ℕ) : Type 0 where
   pub sound : (x : ℕ) → x < 128 → Has found 0 x → (x < n) × Entered L x
   pub entries : (r e : ℕ) → EntryOf L r e → Has found 0 e

@@ -1,22 +1,35 @@
 -- `text::listing` keeps its promise: the refusals in their order, then heading and nodes.
-use mathlib.Core.Path.{subst}
-use Rattle.grammar.specs.Inner.Reader.{TextRead}
-use Rattle.grammar.specs.declared.Step.TheVariants.{At}
+use native.Mathlib.Omega.{arith}
+use lib.ListN.{length}
+use Rattle.std.proofs.lemmas.Result.{err_from_is_err_and}
+use Rattle.text.proofs.Fits.{Fitting, counts_fit}
 use Rattle.text.proofs.Service.{bad_typed, refused_typed, full_typed}
 use Rattle.text.proofs.listing.Goals as goal
-use Rattle.text.proofs.listing.Goals.{In-At}
+use Rattle.text.proofs.listing.Goals.{In_ok-admit}
 
--- the text has a tree of so many parts and nodes
-has_tree : (c : In-At) → TextRead c.args.text.now (At c.in-At.parts c.in-At.nodes)
-has_tree c = subst (TextRead _) c.in-At.is c.whole-read.ensures
+-- the counts fit
+fits : (c : In_ok-admit) → Fitting c.in_ok-size.size (length c.args.out.now)
+fits c = counts_fit _ _ c.in_ok-admit.ensures
 
-pub returns-then-number-ne0 : goal.returns-then-number-ne0
-returns-then-number-ne0 c = refused_typed (has_tree (goal.at.returns-then-number-ne0 c).In-At) c.refusal-number.ensures c.if-number-ne0.true
+pub returns-in_err-size : goal.returns-in_err-size
+returns-in_err-size c =
+    let p = err_from_is_err_and c.from_residual.result c.from_residual.ensures.1 in
+    rw (p.1, p.2) (bad_typed _ c.in_err-size.ensures)
 
-pub returns-in-Bad : goal.returns-in-Bad
-returns-in-Bad c = bad_typed (subst (TextRead _) c.in-Bad.is c.whole-read.ensures)
+pub returns-in_err-admit : goal.returns-in_err-admit
+returns-in_err-admit c =
+    let p = err_from_is_err_and c.from_residual-in_err-admit.result c.from_residual-in_err-admit.ensures.1 in
+    rw (p.1, p.2) (refused_typed _ c.in_ok-size.ensures _ c.in_err-admit.ensures)
 
-pub returns-else-number-ne0 : goal.returns-else-number-ne0
-returns-else-number-ne0 c =
-    full_typed (has_tree (goal.at.returns-else-number-ne0 c).In-At) c.refusal-number.ensures c.if-number-ne0.false c.low.ensures c.low-in-At.ensures
-    c.put_heading.ensures c.write_text.ensures
+pub put_heading-requires : goal.put_heading-requires
+put_heading-requires c = let f = fits (goal.at.put_heading-requires c).In_ok-admit in (omega arith, omega (arith, f.long))
+
+pub overflow_mul-result : goal.overflow_mul-result
+overflow_mul-result c = let f = fits (goal.at.overflow_mul-result c).In_ok-admit in omega (arith, f.nodes)
+
+pub overflow_add-result : goal.overflow_add-result
+overflow_add-result c = let f = fits (goal.at.overflow_add-result c).In_ok-admit in omega (arith, f.nodes)
+
+pub returns : goal.returns
+returns c =
+    full_typed _ c.in_ok-size.ensures c.in_ok-admit.ensures c.low.ensures c.low-2.ensures c.put_heading.ensures c.write_text.ensures

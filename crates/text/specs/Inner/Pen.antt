@@ -1,13 +1,13 @@
 -- The flat writer over the words of a text: where a node leads, which nodes a word makes, and how the pen goes on.
-use Rattle.std.specs.Prelude.{◌≡◌, cond, List, [], ◌∷◌, ◌++◌, ℕ, zero, suc, ◌+◌, ◌-◌, ◌*◌, ◌/◌, ◌%◌, ◌≤◌, length, eqb, ltb}
+use Rattle.std.specs.Prelude.{◌≡◌, cond, List, [], ◌∷◌, ◌++◌, ℕ, zero, suc, ◌+◌, ◌-◌, ◌*◌, ◌/◌, ◌%◌, ◌≤◌, eqb, ltb}
 use Rattle.listing.specs.Kinds.{PLAIN, FENCE}
 use Rattle.listing.specs.Node.{none, Listing}
 use Rattle.words.specs.Words.{Token, Routine, Loop, Either, Open, Close, Fence, Access, Number, Other}
-use Rattle.words.specs.Inner.Looking.{Mark, unread, token_of}
+use Rattle.words.specs.Inner.Looking.{Mark, unread}
 use Rattle.grammar.specs.Tree.{plain}
-use Rattle.grammar.specs.Inner.Reader.{end_of, passed_of}
+use Rattle.grammar.specs.Inner.Reader.{Cursor}
 use Rattle.text.specs.Inner.Records.{alone}
-use Rattle.text.specs.declared.writer.Pen.{Pen}
+use Rattle.text.specs.declared.pen.Pen.{Pen}
 
 -- what the words from place p on say
 abbrev pub tokens_of : List Mark → List Token
@@ -29,11 +29,6 @@ makes Either = 0
 makes Close = 0
 makes (Number n) = 0
 makes Other = 0
-
--- as the code counts them, by the word's code
-pub record Makes (code r : ℕ) : Type 0 where
-  pub same : (v : ℕ) → r ≡ makes (token_of code v)
-  pub few : r ≤ 1
 
 -- the nodes counted up to the end of a block, and the words after it
 pub record Beyond : Type 0 where
@@ -58,18 +53,16 @@ past (Either ∷ ws) o n = past ws o n
 past (Number l ∷ ws) o n = past ws o n
 past (Other ∷ ws) o n = past ws o n
 
--- the cursor went past a block, and counted its nodes
-pub record PastBlock (s old new : List ℕ) : Type 0 where
-  pub same : past (tokens s (end_of old)) 0 (passed_of old) ≡ beyond (passed_of new) (tokens s (end_of new))
-  pub within : end_of new ≤ length s
-  pub few : passed_of new ≤ end_of new
+-- a reader went past a block, and counted its nodes
+pub record PastBlock (s : List ℕ) (old new : Cursor) : Type 0 where
+  pub text : new.text ≡ s
+  pub same : past (tokens s old.end) 0 old.passed ≡ beyond new.passed (tokens s new.end)
 
--- the cursor is on its way past a block, in which o braces are open
-pub record Passing (s old at : List ℕ) (o : ℕ) : Type 0 where
-  pub same : past (tokens s (end_of old)) 0 (passed_of old) ≡ past (tokens s (end_of at)) o (passed_of at)
-  pub within : end_of at ≤ length s
-  pub few : passed_of at ≤ end_of at
-  pub less : o ≤ end_of at
+-- a reader is on its way past a block, in which o braces are open
+pub record Passing (s : List ℕ) (old at : Cursor) (o : ℕ) : Type 0 where
+  pub text : at.text ≡ s
+  pub same : past (tokens s old.end) 0 old.passed ≡ past (tokens s at.end) o at.passed
+  pub less : o ≤ at.end
 
 -- ── Exits ───────────────────────────────────────────────────────────────────
 -- the exits of all open blocks are one number, eight bits a level: the end of the innermost one leads to the node whose number and one

@@ -4,6 +4,7 @@ use Rattle.std.proofs.lemmas.List.Edits.{sets}
 use Rattle.listing.specs.Limits.{NODES}
 use Rattle.listing.specs.Node.{Node, none, Listing}
 use Rattle.listing.specs.Bytes.{record_at, nodes_bytes}
+use Rattle.order.specs.Rows.{All}
 use Rattle.grammar.specs.Tree.{made}
 
 -- each number of a node but its location is a byte
@@ -22,15 +23,10 @@ pub record Room (k : ℕ) (out : List ℕ) : Type 0 where
 pub record HoldsNodes (old new : List ℕ) (n : ℕ) (L : Listing) : Type 0 where
   pub bytes : new ≡ sets old (record_at n) (nodes_bytes L)
 
--- node n, which leads to a and b, is put as the record of m, if there is room for it
-pub record PutNode (old new : List ℕ) (n a b : ℕ) (m : Node) : Type 0 where
+-- the nodes L are put from node n on, if there is room for them and their numbers are bytes
+pub record WroteNodes (old new : List ℕ) (n : ℕ) (L : Listing) : Type 0 where
   pub kept : length new ≡ length old
-  pub bytes : Room (n + 1) old → a < 256 → b < 256 → HoldsNodes old new n (m ∷ [])
-
--- the nodes L, whose end leads to `next`, are put from node n on, if there is room for them
-pub record WroteNodes (old new : List ℕ) (n next : ℕ) (L : Listing) : Type 0 where
-  pub kept : length new ≡ length old
-  pub bytes : Room (n + length L) old → next < 256 → HoldsNodes old new n L
+  pub bytes : Room (n + length L) old → All Low L → HoldsNodes old new n L
 
 -- one node, which leads to `next` alone
 abbrev pub alone : ℕ → ℕ → ℕ → ℕ → Listing

@@ -5,9 +5,9 @@ use Rattle.words.proofs.next.Goals as goal
 pub returns-then-s-start : goal.returns-then-s-start
 returns-then-s-start c =
     let a = c.args in
-    none_found a.s.now a.at _ c.skip-start.ensures c.if-s-start.true
+    none_found a.s.now a.at _ c.first-start.ensures c.if-s-start.true
 
 pub returns : goal.returns
 returns c =
     let a = c.args in
-    one_found a.s.now a.at _ _ _ c.skip-start.ensures c.if-s-start.false c.word_end-end.ensures c.meaning-w.ensures
+    one_found a.s.now a.at _ _ _ c.first-start.ensures c.if-s-start.false c.first-end.ensures c.meaning.ensures

@@ -1,6 +1,9 @@
--- What the word finder says, in the code's numbers.
-use Rattle.std.specs.Prelude.{◌≡◌, true, false, cond, List, [], ◌∷◌, ℕ, ◌<◌, ◌≤◌, length, drop, get_or, eqb}
+-- What the word finder says, in the code's words.
+use Rattle.std.specs.Prelude.{◌≡◌, Bool, true, false, cond, not, List, [], ◌∷◌, ℕ, ◌<◌, ◌≤◌, length, drop, get_or}
+use Rattle.listing.specs.Inner.Coded.{number_of}
 use Rattle.words.specs.declared.Found.{Found}
+use Rattle.words.specs.declared.Word.{Word as Said}
+use Rattle.words.specs.declared.Word.TheVariants as said
 use Rattle.words.specs.Words.{Token, Routine, Loop, Either, Open, Close, Fence, Access, Number, Other, Word, FARTHEST, is_blank}
 use Rattle.words.specs.Words.{words_from, meaning}
 
@@ -20,59 +23,42 @@ marks (w ∷ ws) = mark w.place (meaning w.bytes) ∷ marks ws
 unfoldable pub unread : List ℕ → ℕ → List Mark
 unread s p = marks (words_from p (drop p s))
 
--- the numbers by which the code says what a word says
-abbrev pub nothing_code : ℕ
-nothing_code = 0
+-- what the code's words say; the text's end is no word
+abbrev pub token_of : Said → Token
+token_of said.End = Other
+token_of said.Routine = Routine
+token_of said.Loop = Loop
+token_of said.Either = Either
+token_of said.Open = Open
+token_of said.Close = Close
+token_of said.Fence = Fence
+token_of (said.Access k) = Access (number_of k)
+token_of (said.Number n) = Number n
+token_of said.Other = Other
 
-abbrev pub routine_code : ℕ
-routine_code = 1
-
-abbrev pub loop_code : ℕ
-loop_code = 2
-
-abbrev pub either_code : ℕ
-either_code = 3
-
-abbrev pub open_code : ℕ
-open_code = 4
-
-abbrev pub close_code : ℕ
-close_code = 5
-
-abbrev pub fence_code : ℕ
-fence_code = 6
-
-abbrev pub access_code : ℕ
-access_code = 7
-
-abbrev pub number_code : ℕ
-number_code = 8
-
-abbrev pub other_code : ℕ
-other_code = 9
-
-unfoldable pub token_of : ℕ → ℕ → Token
-token_of c v =
-    cond (eqb c routine_code) Routine
-    (cond (eqb c loop_code) Loop
-    (cond (eqb c either_code) Either
-    (cond (eqb c open_code) Open
-    (cond (eqb c close_code) Close
-    (cond (eqb c fence_code) Fence
-    (cond (eqb c access_code) (Access v)
-    (cond (eqb c number_code) (Number v) Other)))))))
+abbrev pub is_end : Said → Bool
+is_end said.End = true
+is_end said.Routine = false
+is_end said.Loop = false
+is_end said.Either = false
+is_end said.Open = false
+is_end said.Close = false
+is_end said.Fence = false
+is_end (said.Access k) = false
+is_end (said.Number n) = false
+is_end said.Other = false
 
 -- the word found, and what is unread after it
 unfoldable pub ahead : List ℕ → Found → List Mark
-ahead s w = cond (eqb w.code nothing_code) [] (mark w.start (token_of w.code w.value) ∷ unread s w.end)
+ahead s w = cond (is_end w.word) [] (mark w.start (token_of w.word) ∷ unread s w.end)
 
 -- what is known of a word that was found, or of the text's end
 pub record Place (s : List ℕ) (w : Found) : Type 0 where
   pub ordered : w.start ≤ w.end
   pub within : w.end ≤ length s
-  pub some : (w.code ≡ nothing_code → ⊥) → w.start < w.end
-  pub none : w.code ≡ nothing_code → w.start ≡ length s
-  pub small : w.code ≡ number_code → w.value ≤ FARTHEST
+  pub some : (w.word ≡ said.End → ⊥) → w.start < w.end
+  pub none : w.word ≡ said.End → w.start ≡ length s
+  pub small : (n : ℕ) → w.word ≡ said.Number n → n ≤ FARTHEST
 
 -- what looking for the next word at a place finds
 pub record Ahead (s : List ℕ) (at : ℕ) (w : Found) : Type 0 where
@@ -80,16 +66,9 @@ pub record Ahead (s : List ℕ) (at : ℕ) (w : Found) : Type 0 where
   pub later : at ≤ w.start
   pub found : Place s w
 
--- skipping blanks from `at` ends at r: there is no text left, or a byte that is no blank
-pub record Skips (s : List ℕ) (at r : ℕ) : Type 0 where
+-- r is where the first byte from `at` on stands that is a blank, or that is none, as v says; or the text's end
+pub record Until (s : List ℕ) (at : ℕ) (v : Bool) (r : ℕ) : Type 0 where
   pub later : at ≤ r
   pub within : r ≤ length s
-  pub same : unread s at ≡ unread s r
-  pub stops : r < length s → is_blank (get_or s r 0) ≡ false
-
--- the bytes from `at` up to r are no blanks, and a blank or the text's end follows
-pub record WordEnds (s : List ℕ) (at r : ℕ) : Type 0 where
-  pub later : at ≤ r
-  pub within : r ≤ length s
-  pub solid : (k : ℕ) → at ≤ k → k < r → is_blank (get_or s k 0) ≡ false
-  pub stops : r < length s → is_blank (get_or s r 0) ≡ true
+  pub passed : (k : ℕ) → at ≤ k → k < r → is_blank (get_or s k 0) ≡ not v
+  pub stops : r < length s → is_blank (get_or s r 0) ≡ v

@@ -4,6 +4,7 @@ use mathlib.Core.List.{List}
 use Prim.Native.Nat.{ℕ, ◌-◌}
 use borrow.Rule.Slice.PartMut.{put_mid}
 use lib.ListN.{length}
+use lib.Seq.{length-sets}
 use Rattle.lines.proofs.Putting.{in_place}
 use Rattle.lines.proofs.Line.words.Goals as goal
 
@@ -11,10 +12,6 @@ pub returns : goal.returns
 returns c =
     let l = c.args.self.now.buffer.now in
     let at = c.args.self.now.end in
-    record {
-      same = refl;
-      put = record {
-        stored = ap (λ (part : List ℕ). put_mid at (length l - at) l part) c.copy.ensures ∙ in_place l c.args.text.now at c.requires;
-        goes_on = refl;
-      };
-    }
+    let text = c.args.text.now in
+    let stored = ap (λ (part : List ℕ). put_mid at (length l - at) l part) c.copy.ensures ∙ in_place l text at c.requires in
+    record { same = refl; size = ap length stored ∙ length-sets l at text; put = record { stored = stored; goes_on = refl } }

@@ -1,16 +1,13 @@
--- `say::pairs` meets its contract.
-use mathlib.Core.Path.{◌≡◌}
-use Prim.Native.Nat.{◌+◌, ◌-◌, ◌*◌, ◌/◌, ◌≤◌}
-use lib.ListN.{length}
-use Rattle.lines.proofs.Putting.{Left}
+-- `say::line::pairs`: the pairs that are left are those of the twos that are left.
+use Rattle.std.specs.Iterator.Adapters.{take_count, take_source}
+use Rattle.std.specs.Slice.Iter.{iter_rest}
+use Rattle.lines.proofs.Growing.{Growing}
 use Rattle.say.specs.Inner.Answers.{pairs_of}
-use Rattle.say.proofs.Pieces.{pairs_left}
+use Rattle.say.proofs.Pieces.{pairs_in}
 use Rattle.say.proofs.line.pairs.Given as goal
 
-abbrev pub invariant-loop-i : goal.invariant-loop-i
-invariant-loop-i l =
-    (length l.line ≡ length l.initial.line) × (l.end ≤ l.at + 8 * l.i) × (l.i ≤ length l.chain / 2) × Left l.initial.line l.at
-    (pairs_of l.count l.chain) l.line l.end (pairs_left l.chain l.count l.i)
-
-abbrev pub decreases-loop-i : goal.decreases-loop-i
-decreases-loop-i l = l.count - l.i
+abbrev pub invariant-loop-a : goal.invariant-loop-a
+invariant-loop-a l =
+    (goal.iterator-loop-a).can_next l.a-iterator
+    × (goal.iterator-loop-a).is_finite l.a-iterator
+    × Growing l.initial.line (pairs_of l.count l.chain) l.line (pairs_in (take_count l.a-iterator) (iter_rest (take_source l.a-iterator)))

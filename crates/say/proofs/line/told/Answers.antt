@@ -1,18 +1,17 @@
--- `say::told` meets its contract.
-use mathlib.Core.List.{List}
-use Prim.Native.Nat.{ℕ}
+-- What the search leaves of `say::line::told`.
+use mathlib.Core.Path.{◌≡◌, ap, ◌∙◌}
 use native.Mathlib.Omega.{arith}
-use Rattle.verdict.specs.declared.JudgeAnswer.{JudgeAnswer}
+use Rattle.std.specs.Prelude.{Result, Ok}
+use Rattle.listing.specs.declared.reason.Reason.{Reason}
+use Rattle.verdict.specs.declared.Verdict.{Verdict}
+use Rattle.verdict.specs.declared.Verdict.TheVariants.{Robust}
 use Rattle.say.specs.Inner.Answers.{told_line}
-use Rattle.say.proofs.Lining.{lined, lined_as, line_counts}
+use Rattle.say.proofs.Lining.{lined_as, lined_whole}
 use Rattle.say.proofs.line.told.Goals as goal
-use Rattle.say.proofs.line.told.Goals.{Start}
 
-abbrev line_of : Start → JudgeAnswer → List ℕ
-line_of s answer = told_line s.args.robust.now answer s.args.chain.now
-
-pub returns-in-Robust : goal.returns-in-Robust
-returns-in-Robust c =
-    let line = lined_as (line_of (goal.at.returns-in-Robust c).Start) c.in-Robust.is
-    (lined c.words.ensures (omega (arith, c.words.ensures.goes_on))) in
-    record { lined = line; prefix_len = line_counts line }
+pub returns-in-Ok-Robust-clause-lined : goal.returns-in-Ok-Robust-clause-lined
+returns-in-Ok-Robust-clause-lined c =
+    let a = c.args in
+    let verdict : c.in-Ok-Robust.field-0 ≡ Robust = rw c.in-Ok-Robust.is at c.in-Ok-Robust.field-0-is in
+    let is : a.answer ≡ Ok Robust = c.in-Ok-Robust.is ∙ ap (λ (v : Verdict). Ok v) verdict in
+    lined_as (λ (r : Result Verdict Reason). told_line a.robust.now r a.chain.now) is (lined_whole c.new-line.ensures c.words.ensures (omega arith))

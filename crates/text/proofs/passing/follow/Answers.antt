@@ -1,11 +1,10 @@
 -- `text::passing::follow` meets its contract: it looks at the next word.
 use mathlib.Core.Path.{sym, ◌∙◌}
-use Rattle.text.proofs.Looks.{look_exit, look_item}
+use Rattle.text.proofs.Looks.{forked, look_exit, look_item}
 use Rattle.text.proofs.passing.follow.Goals as goal
 
-pub returns-then-code-eq-CLOSE : goal.returns-then-code-eq-CLOSE
-returns-then-code-eq-CLOSE c =
-    c.exit.ensures ∙ sym (look_exit c.look-code.ensures _ _ c.if-code-eq-CLOSE.true)
+pub returns-in-Close : goal.returns-in-Close
+returns-in-Close c = c.exit.ensures ∙ sym (look_exit (forked c.fork.ensures c.look.ensures) _ _ c.in-Close.is)
 
-pub returns : goal.returns
-returns c = sym (look_item c.look-code.ensures _ _ c.if-code-eq-CLOSE.false)
+pub returns-in_default : goal.returns-in_default
+returns-in_default c = sym (look_item (forked c.fork.ensures c.look.ensures) _ _ c.in_default.not-Close)

@@ -1,22 +1,29 @@
--- `words::tell::meaning` meets its contract: a code, or the kind of an access, or a location, or nothing that a text has.
-use mathlib.Core.Path.{sym, ◌∙◌}
-use Rattle.words.proofs.Telling.{says_itself, says_access, says_location, says_other}
+-- What the search leaves of `words::tell::meaning`: the word is none of those that have one spelling.
+use mathlib.Core.Path.{◌≡◌}
+use mathlib.Core.Bool.{cond}
+use Rattle.words.specs.Words.{Number, Other, value_from, number, meaning}
+use Rattle.words.proofs.Same.{told_apart}
+use Rattle.words.proofs.Telling.{says_location, says_other}
 use Rattle.words.proofs.tell.meaning.Goals as goal
+use Rattle.words.proofs.tell.meaning.Goals.{After-location}
 
-pub returns-then-code-ne-OTHER : goal.returns-then-code-ne-OTHER
-returns-then-code-ne-OTHER c = says_itself _ c.code_of-code.ensures c.if-code-ne-OTHER.true
+unspelled : (c : After-location) → let w = c.args.w.now in meaning w ≡ cond (number w) (Number (value_from 0 w)) Other
+unfolding meaning
+unspelled c =
+    rw (
+      told_apart _ c.as_slice.ensures c.if-eq.ensures,
+      told_apart _ c.as_slice-2.ensures c.if-eq-2.ensures,
+      told_apart _ c.as_slice-3.ensures c.if-eq-3.ensures,
+      told_apart _ c.as_slice-4.ensures c.if-eq-4.ensures,
+      told_apart _ c.as_slice-5.ensures c.if-eq-5.ensures,
+      told_apart _ c.as_slice-6.ensures c.if-eq-6.ensures,
+      told_apart _ c.as_slice-7.ensures c.if-eq-7.ensures,
+      told_apart _ c.as_slice-8.ensures c.if-eq-8.ensures,
+      told_apart _ c.as_slice-9.ensures c.if-eq-9.ensures,
+    )
 
-pub returns-then-kind-ne-PLAIN : goal.returns-then-kind-ne-PLAIN
-returns-then-kind-ne-PLAIN c =
-    says_access _ c.code_of-code.ensures c.if-code-ne-OTHER.false (c.wide.ensures.0 ∙ c.access_of-kind.ensures)
-    (λ z. c.if-kind-ne-PLAIN.true (sym c.wide.ensures.0 ∙ z))
+pub returns-in-Some : goal.returns-in-Some
+returns-in-Some c = says_location _ (unspelled (goal.at.returns-in-Some c).After-location) c.in-Some.ensures
 
-pub returns-then-n-ne-NOWHERE : goal.returns-then-n-ne-NOWHERE
-returns-then-n-ne-NOWHERE c =
-    says_location _ c.code_of-code.ensures c.if-code-ne-OTHER.false c.access_of-kind.ensures c.if-kind-ne-PLAIN.false
-    c.location_of-n.ensures c.if-n-ne-NOWHERE.true
-
-pub returns : goal.returns
-returns c =
-    says_other _ c.code_of-code.ensures c.if-code-ne-OTHER.false c.access_of-kind.ensures c.if-kind-ne-PLAIN.false
-    c.location_of-n.ensures c.if-n-ne-NOWHERE.false
+pub returns-in-None : goal.returns-in-None
+returns-in-None c = says_other _ (unspelled (goal.at.returns-in-None c).After-location) c.in-None.ensures

@@ -1,0 +1,10 @@
+-- An either's node is written, and the pen goes into its first block.
+use Rattle.text.proofs.Passes.{forked_past, past_on}
+use Rattle.text.proofs.Blocks.{either_entered}
+use Rattle.text.proofs.pen.Pen.write_either.Goals as goal
+
+pub returns : goal.returns
+returns c =
+    let first = forked_past c.fork-on.ensures c.past_block.ensures in
+    let second = past_on first.text c.past_block-2.ensures in
+    either_entered _ first.same second.same (rw c.within-self.ensures (rw c.passed-meet.ensures)) (rw c.passed-other.ensures at c.put_plain.ensures)
