@@ -3,6 +3,7 @@ use mathlib.Core.Path.{◌≡◌, refl, sym, ap, ◌∙◌, subst, subst₂}
 use mathlib.Core.List.{List, ◌++◌}
 use Prim.Native.Nat.{ℕ, ◌≤◌}
 use native.Mathlib.Omega.{arith}
+use Rattle.std.specs.Prelude.{Result, Ok}
 use lib.ListN.{length, take}
 use borrow.Author.Tests.{ltb-false}
 use Rattle.listing.specs.Node.{Listing}
@@ -10,13 +11,14 @@ use Rattle.listing.specs.Bytes.{nodes_of}
 use Rattle.listing.specs.Rules.{Rule, Refusal, passed, refused, first_of}
 use Rattle.listing.specs.Inner.Numbered.{or_else}
 use Rattle.listing.specs.Answer.{Answer, done, filled}
+use Rattle.listing.specs.declared.reason.Reason.{Reason}
 use Rattle.listing.proofs.Table.{none_applies, first_of_append, pass, pass_first, pass_then}
 use Rattle.order.specs.Patched.{patched}
 use Rattle.reader.specs.Read.{read_rules}
 use Rattle.fencing.specs.Marks.{marks_of}
 use Rattle.fencing.specs.Written.{Written}
 use Rattle.fencing.proofs.Written.{written}
-use Rattle.verdict.specs.declared.JudgeAnswer.{JudgeAnswer}
+use Rattle.verdict.specs.declared.Verdict.{Verdict as Decided}
 use Rattle.verdict.specs.Judging.{question_rules, buffer_rules, CHAIN, judge_rules, judge_says, Judging, JudgePromise}
 use Rattle.verdict.proofs.Promise.{one_kind, says_once, judging_once}
 use Rattle.patch.specs.Patching.{
@@ -30,8 +32,6 @@ use Rattle.patch.specs.Patching.{
   Writing,
   WritePromise,
 }
-use Rattle.patch.specs.declared.WriteAnswer.{WriteAnswer}
-use Rattle.patch.specs.declared.WriteAnswer.TheVariants as writing
 use Rattle.patch.proofs.MapRules.{patched_of, passes_admitted, passes_fits}
 use Rattle.patch.proofs.PutBack.{put_read}
 
@@ -42,10 +42,10 @@ length_answered passed s map old new n w = (refl, ap (λ (a : Answer). a.count) 
 length_answered (refused k p) s map old new n w = absurd (omega (arith, one_kind w.0))
 
 -- what a caller that was answered a length learns: it lies within the listing buffer
-pub length_within : (s map old new : List ℕ) (r : WriteAnswer) (n : ℕ) → WritePromise s map old new (write_says r) → r ≡ writing.Written n → n ≤ length old
+pub length_within : (s map old new : List ℕ) (r : Result ℕ Reason) (n : ℕ) → WritePromise s map old new (write_says r) → r ≡ Ok n → n ≤ length old
 unfolding write_rules
 length_within s map old new r n w is =
-    let told = subst (λ (x : WriteAnswer). WritePromise s map old new (write_says x)) is w in
+    let told = subst (λ (x : Result ℕ Reason). WritePromise s map old new (write_says x)) is w in
     let a = length_answered (first_of (write_rules s map old)) s map old new n told in
     let passing = pass_then (patch_rules s map) (buffer_rules (written_length s map) old) a.0 in
     let room : written_length s map ≤ length old = ltb-false _ _ (none_applies (buffer_rules (written_length s map) old) passing).0 in
@@ -75,7 +75,7 @@ module _ (s map old new : List ℕ) (n : ℕ) (w : WritePromise s map old new (d
         ∙ sym (skip (question_rules q) (patch_rules s map) (buffer_rules CHAIN chain) passes)
 
     -- JUDGING THE WRITTEN LISTING IS JUDGING WITH THE MAP, chain and refusals included
-    pub judge_written : (new₁ new₂ : List ℕ) (r₁ r₂ : JudgeAnswer)
+    pub judge_written : (new₁ new₂ : List ℕ) (r₁ r₂ : Result Decided Reason)
         → JudgePatchPromise q s map chain new₁ (judge_says r₁) → JudgePromise q (take n new) chain new₂ (judge_says r₂) → (r₁ ≡ r₂) × (new₁ ≡ new₂)
     judge_written new₁ new₂ r₁ r₂ h k =
         let k' = subst₂ (λ (f : Refusal) (L : Listing). Judging f q L chain new₂ (judge_says r₂)) same_table reads_back.1 k in

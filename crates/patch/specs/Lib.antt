@@ -1,3 +1,2 @@
 pub mod Patching
 pub mod Accepting
-pub mod Inner

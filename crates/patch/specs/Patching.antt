@@ -1,18 +1,21 @@
 -- What judging with a map, proposing and writing promise: one answer, and one content of every lent buffer.
-use Rattle.std.specs.Prelude.{◌≡◌, Bool, true, false, not, List, [], ◌∷◌, ◌++◌, ℕ, suc, ◌+◌, length, eqb, ltb}
+use Rattle.std.specs.Prelude.{◌≡◌, Bool, true, false, not, List, [], ◌∷◌, ◌++◌, ℕ, suc, ◌+◌, length, eqb, ltb, Result, Ok, Err}
 use Rattle.listing.specs.Limits.{NODES}
 use Rattle.listing.specs.Bytes.{version_of, count_f, count_n, record_at, nodes_of, bytes_of}
 use Rattle.listing.specs.Rules.{Rule, rule, Refusal, passed, refused, first_of}
 use Rattle.listing.specs.Answer.{Answer, done, refusal, filled}
+use Rattle.listing.specs.Reason.{refused_for}
+use Rattle.listing.specs.declared.reason.Reason.{Reason}
 use Rattle.order.specs.Patched.{Marks, places, patched}
 use Rattle.order.specs.Proposed.{Proposed}
 use Rattle.reader.specs.Read.{read_rules}
 use Rattle.verdict.specs.Judging.{question_rules, buffer_rules, CHAIN, Judging}
 use Rattle.fencing.specs.Marks.{marks_of}
-use Rattle.patch.specs.declared.ProposeAnswer.{ProposeAnswer}
-use Rattle.patch.specs.declared.ProposeAnswer.TheVariants as proposing
-use Rattle.patch.specs.declared.WriteAnswer.{WriteAnswer}
-use Rattle.patch.specs.declared.WriteAnswer.TheVariants as writing
+
+-- the rules' number and values for each case of an answer that is a number
+abbrev pub number_says : Result ℕ Reason → Answer
+number_says (Ok n) = done 0 0 n
+number_says (Err r) = refused_for r
 
 -- ── The rules of a map ──────────────────────────────────────────────────────
 -- 14: "map byte not 0 or 1", at the "index of the first such", counted from i
@@ -41,10 +44,9 @@ abbrev pub JudgePatchPromise : ℕ → List ℕ → List ℕ → List ℕ → Li
 JudgePatchPromise q s map old new r = Judging (first_of (judge_patch_rules q s map old)) q (patched (nodes_of s) (marks_of map)) old new r
 
 -- ── Proposing ───────────────────────────────────────────────────────────────
--- the rules' number and values for each case of propose's answer: "how many places hold 1"
-abbrev pub propose_says : ProposeAnswer → Answer
-propose_says (proposing.Proposed n) = done 0 0 n
-propose_says (proposing.Refused k p) = refusal k p
+-- propose's answer: "how many places hold 1"
+abbrev pub propose_says : Result ℕ Reason → Answer
+propose_says r = number_says r
 
 -- "1 for a fence after it, 0 for none"
 abbrev pub map_byte : Bool → ℕ
@@ -77,10 +79,9 @@ abbrev pub ProposePromise : ℕ → List ℕ → List ℕ → List ℕ → Answe
 ProposePromise q s old new r = Proposing (first_of (ask_rules q s)) q s old new r
 
 -- ── Writing ─────────────────────────────────────────────────────────────────
--- the rules' number and values for each case of write's answer: "answers that length"
-abbrev pub write_says : WriteAnswer → Answer
-write_says (writing.Written n) = done 0 0 n
-write_says (writing.Refused k p) = refusal k p
+-- write's answer: "answers that length"
+abbrev pub write_says : Result ℕ Reason → Answer
+write_says r = number_says r
 
 -- "7 + 6(N + places)"
 abbrev pub written_length : List ℕ → List ℕ → ℕ

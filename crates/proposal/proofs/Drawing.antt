@@ -5,6 +5,7 @@ use mathlib.Core.Bool.{true, false≢true}
 use mathlib.Core.List.{List}
 use Prim.Native.Nat.{ℕ, ◌+◌, ◌≤◌, ◌<◌}
 use native.Mathlib.Decide.{dec_lt}
+use Rattle.std.specs.Prelude.{None}
 use native.Mathlib.Omega.{arith}
 use borrow.Author.Count.{below_more}
 use lib.ListN.{length, get_or, take, set, get_or-eq_default}
@@ -14,19 +15,16 @@ use Rattle.listing.specs.Bytes.{count_n, nodes_of}
 use Rattle.listing.proofs.Nodes.{nodes_length}
 use Rattle.order.specs.Verdict.{Fails}
 use Rattle.order.specs.Proposed.{Proposed}
-use Rattle.rows.specs.Inner.Least.{Least}
+use Rattle.rows.specs.Inner.Least.{LeastIfAny}
 use Rattle.failing.proofs.Searching.{failing_in}
 use Rattle.fencing.specs.Marks.{is_mark, marks_of}
 use Rattle.fencing.proofs.Marks.{marks_length, marks_at}
 use Rattle.proposal.specs.Inner.Marking.{MarkOf, Marked, Drawn}
 
 -- ── One mark ────────────────────────────────────────────────────────────────
-module _ (q : ℕ) (L : Listing) (n a r : ℕ) (size : n ≡ length L) (second : Least (Fails q L a) 0 n r) where
-  pub marks_it : r < n → MarkOf q L a 1
-  marks_it h = inl (refl, (r, second.here h))
-
-  pub leaves_it : n ≤ r → MarkOf q L a 0
-  leaves_it h = inr (refl, λ b f. second.none b (omega arith) (omega (arith, (failing_in q L a b f).1)) f)
+-- a node from which no pair fails has none
+pub leaves_it : (q : ℕ) (L : Listing) (n a : ℕ) → n ≡ length L → LeastIfAny (Fails q L a) 0 n None → MarkOf q L a 0
+leaves_it q L n a size second = inr (refl, λ b f. second.none b (omega arith) (omega (arith, (failing_in q L a b f).1)) f)
 
 -- one mark more
 pub one_drawn : (q : ℕ) (L : Listing) (marks : List ℕ) (a x : ℕ) → a < length marks → Marked q L marks a → MarkOf q L a x

@@ -1,39 +1,38 @@
 -- From the search for the first failing pair to the verdict.
 use mathlib.Core.Path.{◌≡◌, refl, sym, ap}
 use mathlib.Core.List.{List}
-use Prim.Native.Nat.{ℕ, ◌<◌}
-use native.Mathlib.Omega.{arith}
+use Prim.Native.Nat.{ℕ}
+use Rattle.std.specs.Prelude.{Some, None}
 use lib.ListN.{length}
 use Rattle.listing.specs.Bytes.{count_n, nodes_of}
 use Rattle.listing.specs.Answer.{done, open_at}
 use Rattle.listing.proofs.Nodes.{nodes_length}
 use Rattle.order.specs.Verdict.{robust, opened}
-use Rattle.failing.specs.Inner.Failing.{Laid, NextFailing}
+use Rattle.failing.specs.declared.search.Found.{Found}
+use Rattle.failing.specs.Inner.Failing.{Laid, NextIfAny}
 use Rattle.failing.proofs.Searching.{first_found, none_robust}
 use Rattle.verdict.specs.Judging.{Told}
 use Rattle.verdict.specs.Inner.Showing.{Chained, Showed}
 
-module _ (q : ℕ) (s : List ℕ) (x y : ℕ) (next : NextFailing q (nodes_of s) (count_n s) 0 0 x y) where
+module _ (q : ℕ) (s : List ℕ) where
   size : count_n s ≡ length (nodes_of s)
   size = sym (nodes_length s)
 
   -- ROBUST: no pair fails, and nothing is written
-  pub told_robust : (old : List ℕ) → x ≡ count_n s → Told q (nodes_of s) old old (done 0 0 0)
-  told_robust old e = record { verdict = robust; judged = none_robust q (nodes_of s) (count_n s) x y size next e; says = refl; writes = refl }
+  pub told_robust : (old : List ℕ) → NextIfAny q (nodes_of s) (count_n s) 0 0 None → Told q (nodes_of s) old old (done 0 0 0)
+  told_robust old next = record { verdict = robust; judged = none_robust q (nodes_of s) (count_n s) size next; says = refl; writes = refl }
 
-  module _ (other : x ≡ count_n s → ⊥) where
-    low : x < count_n s
-    low = omega (arith, next.low)
-
+  module _ (p : Found) (next : NextIfAny q (nodes_of s) (count_n s) 0 0 (Some p)) where
     -- what showing the first failing pair's chain stands on
-    pub chained : (p m c i : List ℕ) → Laid q s p m c i → Chained s p m x y
-    chained p m c i l = record { whole = l.prepared.whole; pairs = l.pairs; meetings = l.meetings; chain = (next.here low).chain }
+    pub chained : (w m c i : List ℕ) → Laid q s w m c i → Chained s w m p.first p.second
+    chained w m c i l = record { whole = l.prepared.whole; pairs = l.pairs; meetings = l.meetings; chain = (next.1.here next.0).chain }
 
     -- OPEN: the first failing pair, and its chain at the buffer's start
-    pub told_open : (old new : List ℕ) (k : ℕ) → Showed (nodes_of s) x y old new k → Told q (nodes_of s) old new (open_at x y k)
+    pub told_open : (old new : List ℕ) (k : ℕ) → Showed (nodes_of s) p.first p.second old new k
+        → Told q (nodes_of s) old new (open_at p.first p.second k)
     told_open old new k h = record {
-      verdict = opened (x, y) h.rest;
-      judged = (first_found q (nodes_of s) (count_n s) x y size next low, h.shown);
-      says = ap (open_at x y) h.count;
+      verdict = opened (p.first, p.second) h.rest;
+      judged = (first_found q (nodes_of s) (count_n s) size p next, h.shown);
+      says = ap (open_at p.first p.second) h.count;
       writes = h.bytes;
     }

@@ -1,5 +1,5 @@
 -- What follows a pair on the chain to show, found over rows: its first node's row is the set of goals.
-use mathlib.Core.Path.{◌≡◌, sym, ap, ap₂, ◌∙◌}
+use mathlib.Core.Path.{◌≡◌, sym, ap, ap₂, ◌∙◌, subst}
 use mathlib.Core.List.{List, ◌++◌}
 use Prim.Native.Nat.{ℕ, ◌*◌, ◌≤◌, ◌<◌}
 use native.Mathlib.Omega.{arith}
@@ -20,8 +20,13 @@ use Rattle.rows.specs.Inner.Touched.{Copied}
 use Rattle.chains.specs.Inner.Far.{Goal}
 use Rattle.chains.specs.Inner.Courses as hops
 use Rattle.verdict.specs.Judging.{chain_bytes}
-use Rattle.verdict.specs.Inner.Showing.{Chained, Followed}
+use Rattle.verdict.specs.Inner.Showing.{PairOf, Chained, Followed}
 use Rattle.verdict.proofs.Shortest.{Kept, chain_length, of_round, best_by_rows}
+
+-- what holds of a shown chain's fields holds of what a contract sees of it
+pub seen : {s p m : List ℕ} {a b : ℕ} {v : PairOf} → record { bytes = s; first = a; second = b } ≡ v → Chained s p m a b
+    → Chained v.bytes p m v.first v.second
+seen {p = p} {m = m} e k = subst (λ (v : PairOf). Chained v.bytes p m v.first v.second) e k
 
 module _ (s p m : List ℕ) (a b : ℕ) (k : Chained s p m a b) where
   abbrev L : Listing

@@ -2,34 +2,45 @@
 use mathlib.Core.Path.{◌≡◌, refl, sym, ap, ◌∙◌}
 use mathlib.Core.Bool.{cond}
 use mathlib.Core.List.{List}
-use Prim.Native.Nat.{ℕ}
+use Prim.Native.Nat.{ℕ, ◌<◌}
+use native.Mathlib.Omega.{arith}
+use Rattle.std.specs.Prelude.{Result, Ok, Err}
 use lib.Dec.{eqb}
 use Rattle.listing.specs.Node.{Listing}
 use Rattle.listing.specs.Bytes.{nodes_of}
 use Rattle.listing.specs.Rules.{Refusal, passed, refused, first_of}
 use Rattle.listing.specs.Answer.{Answer}
+use Rattle.listing.specs.declared.reason.Reason.{Reason}
+use Rattle.listing.proofs.Reasons.{reasons_apart}
 use Rattle.order.proofs.Unique.{judged_unique}
-use Rattle.verdict.specs.declared.JudgeAnswer.{JudgeAnswer}
-use Rattle.verdict.specs.declared.JudgeAnswer.TheVariants.{Robust, Open, Refused}
-use Rattle.verdict.specs.Judging.{judge_rules, judge_says, Judging, JudgePromise}
+use Rattle.verdict.specs.declared.Verdict.{Verdict as Decided}
+use Rattle.verdict.specs.declared.Verdict.TheVariants.{Robust, Open}
+use Rattle.verdict.specs.Judging.{judge_rules, decided_says, judge_says, Judging, JudgePromise}
 
 -- equal answers are of one kind
 pub one_kind : {x y : Answer} → x ≡ y → x.kind ≡ y.kind
 one_kind e = ap (λ (x : Answer). x.kind) e
 
--- the judge's answer that says it
-unsaid : Answer → JudgeAnswer
-unsaid x = cond (eqb x.kind 0) Robust (cond (eqb x.kind 1) (Open x.first x.second x.count) (Refused x.first x.second))
+-- the verdict that says it
+unsaid : Answer → Decided
+unsaid x = cond (eqb x.kind 0) Robust (Open x.first x.second x.count)
 
-said_back : (r : JudgeAnswer) → unsaid (judge_says r) ≡ r
+said_back : (v : Decided) → unsaid (decided_says v) ≡ v
 unfolding unsaid
 said_back Robust = refl
 said_back (Open a b n) = refl
-said_back (Refused k p) = refl
+
+-- a verdict says no refusal
+no_refusal : (v : Decided) → (decided_says v).kind < 2
+no_refusal Robust = omega arith
+no_refusal (Open a b n) = omega arith
 
 -- two answers that say the same are the same
-pub says_once : (r r' : JudgeAnswer) → judge_says r ≡ judge_says r' → r ≡ r'
-says_once r r' e = sym (said_back r) ∙ ap unsaid e ∙ said_back r'
+pub says_once : (r r' : Result Decided Reason) → judge_says r ≡ judge_says r' → r ≡ r'
+says_once (Ok v) (Ok v') e = ap Ok (sym (said_back v) ∙ ap unsaid e ∙ said_back v')
+says_once (Ok v) (Err r) e = absurd (omega (arith, one_kind e, no_refusal v))
+says_once (Err r) (Ok v) e = absurd (omega (arith, one_kind e, no_refusal v))
+says_once (Err r) (Err r') e = ap Err (reasons_apart r r' (ap (λ (x : Answer). x.first) e) (ap (λ (x : Answer). x.second) e))
 
 -- ONE ANSWER AND ONE CONTENT, whatever is refused
 pub judging_once : (f : Refusal) (q : ℕ) (L : Listing) (old new new' : List ℕ) (r r' : Answer)
@@ -40,7 +51,7 @@ judging_once passed q L old new new' r r' h k =
 judging_once (refused n p) q L old new new' r r' h k = (cc, cc)
 
 -- JUDGE'S PROMISE IS UNIQUE
-pub judge_once : (q : ℕ) (s old new new' : List ℕ) (r r' : JudgeAnswer)
+pub judge_once : (q : ℕ) (s old new new' : List ℕ) (r r' : Result Decided Reason)
     → JudgePromise q s old new (judge_says r) → JudgePromise q s old new' (judge_says r') → (r ≡ r') × (new ≡ new')
 judge_once q s old new new' r r' h k =
     let o = judging_once (first_of (judge_rules q s old)) q (nodes_of s) old new new' (judge_says r) (judge_says r') h k in

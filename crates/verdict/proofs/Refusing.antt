@@ -12,6 +12,9 @@ use Rattle.listing.specs.Rules.{Rule, rule, Refusal, passed, refused, first_of}
 use Rattle.listing.proofs.Bools.{and_both}
 use Rattle.listing.proofs.Table.{pass, stop}
 use Rattle.order.specs.Need.{QUESTIONS, Asked}
+use Rattle.order.specs.Inner.Asking.{asked}
+use Rattle.order.specs.declared.question.Question.{Question}
+use Rattle.order.specs.declared.question.Question.TheVariants.{ScOnX86, ScOnArmv7, X86OnArmv7, Armv8OnArmv7, ScOnArmv8, X86OnArmv8}
 use Rattle.reader.specs.Read.{read_rules, Admitted}
 use Rattle.verdict.specs.Judging.{wrong_question, question_rules, buffer_rules, CHAIN, judge_rules, Told, Judging, JudgePromise}
 
@@ -62,9 +65,30 @@ module _ (q : ℕ) (s old : List ℕ) where
   pub judge_told : (new : List ℕ) (r : Answer) → first_of (judge_rules q s old) ≡ passed → Told q (nodes_of s) old new r → JudgePromise q s old new r
   judge_told new r e t = subst (λ (f : Refusal). Judging f q (nodes_of s) old new r) (sym e) t
 
--- a question that rule 1 lets pass can be asked
-pub question_in : (q : ℕ) → wrong_question q ≡ false → Asked q
+-- ── The question ────────────────────────────────────────────────────────────
+-- a number that rule 1 lets pass asks a question
+question_in : (n : ℕ) → wrong_question n ≡ false → Asked n
 unfolding wrong_question
-question_in q e =
-    let h = and_both (leb 1 q) (leb q QUESTIONS) (not-false _ e) in
-    record { least = leb-true 1 q h.0; most = leb-true q QUESTIONS h.1 }
+question_in n e =
+    let h = and_both (leb 1 n) (leb n QUESTIONS) (not-false _ e) in
+    record { least = leb-true 1 n h.0; most = leb-true n QUESTIONS h.1 }
+
+-- RULE 1 REFUSES WHAT ASKS NOTHING, and nothing else
+pub question_wrong : (n : ℕ) → (Asked n → ⊥) → wrong_question n ≡ true
+question_wrong n h = by (wrong_question n) refl
+  where
+    by : (b : Bool) → wrong_question n ≡ b → wrong_question n ≡ true
+    by true e = e
+    by false e = absurd (h (question_in n e))
+
+asked_right : (q : Question) → wrong_question (asked q) ≡ false
+unfolding wrong_question
+asked_right ScOnX86 = refl
+asked_right ScOnArmv7 = refl
+asked_right X86OnArmv7 = refl
+asked_right Armv8OnArmv7 = refl
+asked_right ScOnArmv8 = refl
+asked_right X86OnArmv8 = refl
+
+pub question_right : (n : ℕ) (q : Question) → asked q ≡ n → wrong_question n ≡ false
+question_right n q e = subst (λ (k : ℕ). wrong_question k ≡ false) e (asked_right q)

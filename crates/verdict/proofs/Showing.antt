@@ -44,12 +44,14 @@ put_first (x ∷ y ∷ xs) l a b h =
         ap (λ (v : List ℕ). a ∷ b ∷ v)
         (ap₂ (λ (u v : List ℕ). (l ++ drop (length l) u) ++ v) (take-length xs) (drop-length xs) ∙ append-nil (l ++ drop (length l) xs))
 
--- THE CHAIN STANDS at the buffer's start
-pub showed : (L : Listing) (a b : ℕ) (old part : List ℕ) (i : ℕ) → 2 ≤ length old
-    → Followed L a b (rest (headed old a b)) part i → Showed L a b old (with_rest (headed old a b) part) (i + 1)
-showed L a b old part i h f = record {
-  rest = f.rest;
-  shown = f.shown;
-  count = omega (arith, f.count);
-  bytes = ap (with_rest (headed old a b)) f.bytes ∙ put_first old (chain_bytes f.rest) a b h;
-}
+-- THE CHAIN STANDS at the buffer's start, its first pair as the code has it
+pub showed : (L : Listing) (x y a b : ℕ) → x ≡ a → y ≡ b → (old part : List ℕ) (i : ℕ) → 2 ≤ length old
+    → Followed L a b (rest (headed old x y)) part i → Showed L a b old (with_rest (headed old x y) part) (i + 1)
+showed L x y a b ex ey old part i h f =
+    let g : Followed L a b (rest (headed old a b)) part i = rw (ex, ey) at f in
+    rw (ex, ey) record {
+      rest = g.rest;
+      shown = g.shown;
+      count = omega (arith, g.count);
+      bytes = ap (with_rest (headed old a b)) g.bytes ∙ put_first old (chain_bytes g.rest) a b h;
+    }

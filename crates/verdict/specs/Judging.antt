@@ -1,16 +1,18 @@
 -- What judging promises: one answer, and one content of the lent chain buffer.
-use Rattle.std.specs.Prelude.{◌≡◌, Bool, not, ◌&&◌, List, [], ◌∷◌, ◌++◌, ℕ, ◌+◌, ◌*◌, length, ltb, leb}
+use Rattle.std.specs.Prelude.{◌≡◌, Bool, not, ◌&&◌, List, [], ◌∷◌, ◌++◌, ℕ, ◌+◌, ◌*◌, length, ltb, leb, Result, Ok, Err}
 use Rattle.listing.specs.Limits.{NODES}
 use Rattle.listing.specs.Node.{Listing}
 use Rattle.listing.specs.Bytes.{nodes_of}
 use Rattle.listing.specs.Rules.{Rule, rule, Refusal, passed, refused, first_of}
 use Rattle.listing.specs.Answer.{Answer, done, open_at, refusal, filled}
+use Rattle.listing.specs.Reason.{refused_for}
+use Rattle.listing.specs.declared.reason.Reason.{Reason}
 use Rattle.order.specs.Chains.{Ends}
 use Rattle.order.specs.Need.{QUESTIONS}
 use Rattle.order.specs.Verdict.{Verdict, robust, opened, Judged}
 use Rattle.reader.specs.Read.{read_rules}
-use Rattle.verdict.specs.declared.JudgeAnswer.{JudgeAnswer}
-use Rattle.verdict.specs.declared.JudgeAnswer.TheVariants.{Robust, Open, Refused}
+use Rattle.verdict.specs.declared.Verdict.{Verdict as Decided}
+use Rattle.verdict.specs.declared.Verdict.TheVariants.{Robust, Open}
 
 -- "question not 1 to 6"
 unfoldable pub wrong_question : ℕ → Bool
@@ -32,11 +34,15 @@ CHAIN = 2 * (NODES + 1)
 unfoldable pub judge_rules : ℕ → List ℕ → List ℕ → List Rule
 judge_rules q s chain = question_rules q ++ (read_rules s ++ buffer_rules CHAIN chain)
 
--- the rules' number and values for each case of judge's answer
-abbrev pub judge_says : JudgeAnswer → Answer
-judge_says Robust = done 0 0 0
-judge_says (Open a b n) = open_at a b n
-judge_says (Refused k p) = refusal k p
+-- the rules' number and values for each case of what is decided
+abbrev pub decided_says : Decided → Answer
+decided_says Robust = done 0 0 0
+decided_says (Open a b n) = open_at a b n
+
+-- the same of judge's answer
+abbrev pub judge_says : Result Decided Reason → Answer
+judge_says (Ok v) = decided_says v
+judge_says (Err r) = refused_for r
 
 -- "the chain, put as two bytes a pair"
 abbrev pub chain_bytes : List Ends → List ℕ

@@ -1,130 +1,77 @@
 // The judge: the verdict of a listing under a question, with the first failing pair and its chain.
 #![tactic(auto)]
 
-ghost use Rattle.std.specs.Prelude.{◌≡◌, ◌*◌, ◌≤◌, length};
+mod shown;
+
+ghost use Rattle.std.specs.Prelude.{◌≤◌, Ok, length};
 ghost use Rattle.listing.specs.Bytes.{count_n, nodes_of};
-ghost use Rattle.listing.specs.Inner.Whole.{Whole};
-ghost use Rattle.order.specs.Need.{Asked};
-ghost use Rattle.verdict.specs.Judging.{CHAIN, wrong_question, judge_says, Told, JudgePromise};
-ghost use Rattle.verdict.specs.Inner.Showing.{Chained, Followed, Showed};
+ghost use Rattle.order.specs.Inner.Asking.{asked};
+ghost use Rattle.failing.specs.Inner.Failing.{Prepared, NextIfAny};
+ghost use Rattle.verdict.specs.Judging.{CHAIN, decided_says, judge_says, Told, JudgePromise};
 
-use listing::{Listing, ReadAnswer};
+use failing::{Found, Search};
+use listing::{Listing, Reason};
+use order::Question;
 use rows::WORDS;
+use shown::ShownChain;
 
-// What judging answers.
+// What judging answers where nothing is refused.
 #[derive(Drop)]
-pub enum JudgeAnswer {
+pub enum Verdict {
     Robust,
     Open {
         first: usize,
         second: usize,
         count: usize,
     },
-    Refused {
-        number: u8,
-        place: usize,
-    },
 }
 
 // What a chain buffer must have: two bytes a pair, of one pair more than a listing has nodes.
 pub const CHAIN_BYTES: usize = 2 * (Listing::NODES + 1);
 
-// Rule 1.
-pub fn wrong_question(question: u64) -> bool
-    ensures { result ≡ wrong_question question }
+// The first pair that fails, over rows that were made ready for the search. Here they are lent no longer than it takes.
+fn first_failing(
+    question: Question,
+    listing: &Listing,
+    c: &[u64; WORDS],
+    i: &[u64; WORDS],
+) -> Option<Found>
+    requires { Prepared (asked question) listing.now c.now i.now }
+    ensures { NextIfAny (asked question) (nodes_of listing.now) (count_n listing.now) 0 0 result }
 {
-    if question < 1 {
-        return true;
-    }
-    if (order::QUESTIONS as u64) < question {
-        return true;
-    }
-    false
-}
-
-// Puts the pairs that follow (a, b) on its chain at the buffer's start, and says how many there are. v is for the work.
-fn follow(
-    bytes: &[u8],
-    p: &[u64; WORDS],
-    m: &[u64; WORDS],
-    v: &mut [u64; WORDS],
-    a: usize,
-    b: usize,
-    out: &mut [u8],
-) -> usize
-    requires { Chained bytes.now p.now m.now a b × (2 * count_n bytes.now ≤ length out.old) }
-    ensures { Followed (nodes_of bytes.now) a b out.old out.new result }
-{
-    let n = listing::node_count(bytes);
-    let mut ends = [0u64; 2];
-    rows::copy_row(m, a, &mut ends);
-    let mut d = [0u8; Listing::NODES];
-    chains::chain(n, m, p, &ends, b, v, &mut d, out)
-}
-
-// Puts the chain of (a, b) at the buffer's start, and says how many pairs it has. v is for the work.
-fn show_chain(
-    bytes: &[u8],
-    p: &[u64; WORDS],
-    m: &[u64; WORDS],
-    v: &mut [u64; WORDS],
-    a: usize,
-    b: usize,
-    out: &mut [u8],
-) -> usize
-    requires { Chained bytes.now p.now m.now a b × (CHAIN ≤ length out.old) }
-    ensures { Showed (nodes_of bytes.now) a b out.old out.new result }
-{
-    out[0] = a as u8;
-    out[1] = b as u8;
-    follow(bytes, p, m, v, a, b, &mut out[2..]) + 1
+    Search::new(question, listing, c, i).next(0, 0)
 }
 
 // The verdict of a listing whose records are all there.
-pub fn decide(question: u8, bytes: &[u8], chain: &mut [u8]) -> JudgeAnswer
-    requires { Asked question × Whole bytes.now × (CHAIN ≤ length chain.old) }
-    ensures { Told question (nodes_of bytes.now) chain.old chain.new (judge_says result) }
+pub fn decide(question: Question, listing: &Listing, chain: &mut [u8]) -> Verdict
+    requires { CHAIN ≤ length chain.old }
+    ensures { Told (asked question) (nodes_of listing.now) chain.old chain.new (decided_says result) }
 {
     let mut p = [0u64; WORDS];
     let mut m = [0u64; WORDS];
     let mut c = [0u64; WORDS];
     let mut i = [0u64; WORDS];
-    failing::prepare(question, bytes, &mut p, &mut m, &mut c, &mut i);
-    let found = failing::next_failing(question, bytes, &c, &i, 0, 0);
-    let first = found.first;
-    let second = found.second;
-    if first == listing::node_count(bytes) {
-        return JudgeAnswer::Robust;
-    }
+    failing::prepare(question, listing, &mut p, &mut m, &mut c, &mut i);
+    let Some(pair) = first_failing(question, listing, &c, &i) else {
+        return Verdict::Robust;
+    };
     // nobody asks for the suspects any more, so their rows serve the work
-    let count = show_chain(bytes, &p, &m, &mut c, first, second, chain);
-    JudgeAnswer::Open {
-        first,
-        second,
+    let count = ShownChain::new(listing, &p, &m, pair).show(&mut c, chain);
+    Verdict::Open {
+        first: pair.first,
+        second: pair.second,
         count,
     }
 }
 
 // ROBUST, or OPEN with the first failing pair and its chain, or the first of the refusals 1 to 12, 18 and 16 that applies.
-pub fn judge(question: u64, bytes: &[u8], chain: &mut [u8]) -> JudgeAnswer
+pub fn judge(question: u64, bytes: &[u8], chain: &mut [u8]) -> Result<Verdict, Reason>
     ensures { JudgePromise question bytes.now chain.old chain.new (judge_says result) }
 {
-    if wrong_question(question) {
-        return JudgeAnswer::Refused {
-            number: 1,
-            place: 0,
-        };
+    let question = Question::try_from(question)?;
+    let listing = reader::read(bytes)?;
+    if chain.len() < CHAIN_BYTES {
+        return Err(Reason::Buffer);
     }
-    match reader::read(bytes) {
-        ReadAnswer::Refused { number, place } => JudgeAnswer::Refused { number, place },
-        ReadAnswer::Good(_) => {
-            if chain.len() < CHAIN_BYTES {
-                return JudgeAnswer::Refused {
-                    number: 16,
-                    place: 0,
-                };
-            }
-            decide(question as u8, bytes, chain)
-        }
-    }
+    Ok(decide(question, &listing, chain))
 }

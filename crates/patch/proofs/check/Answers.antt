@@ -1,21 +1,27 @@
 -- `patch::check` meets its contract.
 use mathlib.Core.Path.{sym, ◌∙◌}
+use Rattle.std.proofs.lemmas.Result.{err_from_is_err_and}
 use Rattle.reader.specs.Read.{Admitted}
-use Rattle.reader.proofs.Admitted.{admitted_whole}
 use Rattle.reader.proofs.ReadPromise.{read_refused, read_good}
 use Rattle.patch.proofs.MapRules.{by_listing, by_map}
 use Rattle.patch.proofs.check.Goals as goal
-use Rattle.patch.proofs.check.Goals.{In-Good}
+use Rattle.patch.proofs.check.Goals.{In_ok-listing}
 
-admitted : (c : In-Good) → Admitted c.args.bytes.now
-admitted c = (read_good _ _ _ c.read.ensures c.in-Good.is).0
+admitted : (c : In_ok-listing) → Admitted c.args.bytes.now
+admitted c = (read_good _ _ _ c.in_ok-listing.ensures.says).0
 
-pub check_map-requires : goal.check_map-requires
-check_map-requires c = admitted_whole _ (admitted c)
+pub returns-in_err-listing-clause-checked : goal.returns-in_err-listing-clause-checked
+returns-in_err-listing-clause-checked c =
+    let p = err_from_is_err_and c.from_residual.result c.from_residual.ensures.1 in
+    rw (p.1, p.2) (sym (by_listing _ _ _ _ (read_refused _ _ _ c.in_err-listing.ensures.says)))
 
-pub returns-in-Refused : goal.returns-in-Refused
-returns-in-Refused c =
-    sym (by_listing _ _ _ _ (read_refused _ _ _ _ c.read.ensures c.in-Refused.is))
+pub returns-in_err-check_map-clause-checked : goal.returns-in_err-check_map-clause-checked
+returns-in_err-check_map-clause-checked c =
+    let p = err_from_is_err_and c.from_residual-in_err-check_map.result c.from_residual-in_err-check_map.ensures.1 in
+    let read = admitted (goal.at.returns-in_err-check_map-clause-checked c).In_ok-listing in
+    rw (p.1, p.2) ((rw c.in_ok-listing.ensures.same at c.in_err-check_map.ensures) ∙ sym (by_map _ _ read))
 
-pub returns-in-Good : goal.returns-in-Good
-returns-in-Good c = c.check_map.ensures ∙ sym (by_map _ _ (admitted (goal.at.returns-in-Good c).In-Good))
+pub returns-clause-checked : goal.returns-clause-checked
+returns-clause-checked c =
+    let read = admitted (goal.at.returns-clause-checked c).In_ok-listing in
+    (rw c.in_ok-listing.ensures.same at c.in_ok-check_map.ensures) ∙ sym (by_map _ _ read)

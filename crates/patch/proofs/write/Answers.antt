@@ -1,25 +1,18 @@
 -- `patch::write` meets its contract.
-use mathlib.Core.Path.{◌≡◌, refl, sym, ap, ◌∙◌}
-use Rattle.listing.specs.Rules.{passed, first_of}
-use Rattle.patch.specs.Patching.{patch_rules}
-use Rattle.patch.specs.Inner.Checking.{checked}
+use mathlib.Core.Path.{refl, sym}
+use Rattle.std.proofs.lemmas.Result.{err_from_is_err_and}
 use Rattle.patch.proofs.MapRules.{passes_fits}
 use Rattle.patch.proofs.WriteRules.{refused_early, passed_early}
 use Rattle.patch.proofs.write.Goals as goal
-use Rattle.patch.proofs.write.Goals.{In-Passed}
 
-passes : (c : In-Passed)
-    → let a = c.args in
-    first_of (patch_rules a.bytes.now a.map.now) ≡ passed
-passes c = sym c.check.ensures ∙ ap checked c.in-Passed.is
+pub returns-in_err-listing : goal.returns-in_err-listing
+returns-in_err-listing c =
+    let p = err_from_is_err_and c.from_residual.result c.from_residual.ensures.1 in
+    rw (p.1, p.2) (refused_early _ _ _ _ _ _ (sym c.in_err-listing.ensures.checked) refl)
 
 pub write_checked-requires : goal.write_checked-requires
-write_checked-requires c = passes_fits _ _ (passes (goal.at.write_checked-requires c).In-Passed)
+write_checked-requires c = rw c.in_ok-listing.ensures.same (passes_fits _ _ (sym c.in_ok-listing.ensures.checked))
 
-pub returns-in-Refused : goal.returns-in-Refused
-returns-in-Refused c =
-    refused_early _ _ _ _ _ _ (sym c.check.ensures ∙ ap checked c.in-Refused.is) refl
-
-pub returns-in-Passed : goal.returns-in-Passed
-returns-in-Passed c =
-    passed_early _ _ _ _ _ (passes (goal.at.returns-in-Passed c).In-Passed) c.write_checked.ensures
+pub returns : goal.returns
+returns c =
+    passed_early _ _ _ _ _ (sym c.in_ok-listing.ensures.checked) (rw c.in_ok-listing.ensures.same at c.write_checked.ensures)

@@ -1,39 +1,26 @@
 -- `proposal::propose` meets its contract.
-use mathlib.Core.Path.{◌≡◌, refl, sym, ◌∙◌}
-use mathlib.Core.Bool.{false}
-use native.Mathlib.Omega.{arith}
-use Rattle.reader.specs.Read.{Admitted}
-use Rattle.reader.proofs.Admitted.{admitted_whole}
+use mathlib.Core.Path.{refl}
+use Rattle.std.proofs.lemmas.Result.{err_from_is_err_and}
 use Rattle.reader.proofs.ReadPromise.{read_refused, read_good}
-use Rattle.verdict.specs.Judging.{wrong_question}
-use Rattle.verdict.proofs.Refusing.{question_in}
+use Rattle.verdict.proofs.Refusing.{question_wrong, question_right}
 use Rattle.proposal.proofs.Offering.{ask_1, ask_listing, ask_passes}
 use Rattle.proposal.proofs.propose.Goals as goal
-use Rattle.proposal.proofs.propose.Goals.{Else-wrong_question, In-Good}
 
-asked : (c : Else-wrong_question) → wrong_question c.args.question ≡ false
-asked c = sym c.wrong_question.ensures ∙ c.if-wrong_question.false
+pub returns-in_err-question : goal.returns-in_err-question
+returns-in_err-question c =
+    let p = err_from_is_err_and c.from_residual.result c.from_residual.ensures.1 in
+    let wrong = c.in_err-question.ensures in
+    rw (p.1, p.2, wrong.0) (ask_1 _ _ _ _ (question_wrong _ wrong.1) refl)
 
-admitted : (c : In-Good) → Admitted c.args.bytes.now
-admitted c = (read_good _ _ _ c.read.ensures c.in-Good.is).0
+pub returns-in_err-listing : goal.returns-in_err-listing
+returns-in_err-listing c =
+    let p = err_from_is_err_and c.from_residual-in_err-listing.result c.from_residual-in_err-listing.ensures.1 in
+    let right = question_right _ _ c.in_ok-question.ensures in
+    rw (p.1, p.2) (ask_listing _ _ _ _ _ _ right (read_refused _ _ _ c.in_err-listing.ensures.says) refl)
 
-pub returns-then-wrong_question : goal.returns-then-wrong_question
-returns-then-wrong_question c = ask_1 _ _ _ _ (sym c.wrong_question.ensures ∙ c.if-wrong_question.true) refl
-
-pub overflow_cast-question : goal.overflow_cast-question
-overflow_cast-question c =
-    let q = question_in _ (asked (goal.at.overflow_cast-question c).Else-wrong_question) in
-    omega arith
-
-pub propose_for-requires : goal.propose_for-requires
-propose_for-requires c =
-    let q = question_in _ (asked (goal.at.propose_for-requires c).Else-wrong_question) in
-    (q, admitted_whole _ (admitted (goal.at.propose_for-requires c).In-Good))
-
-pub returns-in-Refused : goal.returns-in-Refused
-returns-in-Refused c =
-    ask_listing _ _ _ _ _ _ (asked (goal.at.returns-in-Refused c).Else-wrong_question) (read_refused _ _ _ _ c.read.ensures c.in-Refused.is) refl
-
-pub returns-in-Good : goal.returns-in-Good
-returns-in-Good c =
-    ask_passes _ _ _ _ _ (asked (goal.at.returns-in-Good c).Else-wrong_question) (admitted (goal.at.returns-in-Good c).In-Good) c.propose_for.ensures
+pub returns : goal.returns
+returns c =
+    let right = question_right _ _ c.in_ok-question.ensures in
+    let read = (read_good _ _ _ c.in_ok-listing.ensures.says).0 in
+    let proposed = rw (c.in_ok-question.ensures, c.in_ok-listing.ensures.same) at c.propose_for.ensures in
+    ask_passes _ _ _ _ _ right read proposed

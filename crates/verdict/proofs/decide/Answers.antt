@@ -1,12 +1,12 @@
 -- `verdict::decide` meets its contract.
-use mathlib.Core.Path.{sym, ◌∙◌}
-use Rattle.verdict.proofs.Deciding.{told_robust, told_open}
+use Rattle.verdict.proofs.Deciding.{told_robust, chained, told_open}
 use Rattle.verdict.proofs.decide.Goals as goal
 
-pub returns-then-first-node_count : goal.returns-then-first-node_count
-returns-then-first-node_count c =
-    told_robust _ _ _ _ c.next_failing-found.ensures _ (c.if-first-node_count.true ∙ c.node_count.ensures.0)
+pub returns-in_default : goal.returns-in_default
+returns-in_default c = told_robust _ _ _ (rw c.in_default.is at c.first_failing.ensures)
+
+pub new-requires : goal.new-requires
+new-requires c = chained _ _ _ c.in-Some.ensures _ _ _ _ c.prepare.ensures
 
 pub returns : goal.returns
-returns c =
-    told_open _ _ _ _ c.next_failing-found.ensures (λ e. c.if-first-node_count.false (e ∙ sym c.node_count.ensures.0)) _ _ _ c.show_chain-count.ensures
+returns c = told_open _ _ _ c.in-Some.ensures _ _ _ (rw c.new.ensures at c.show-count.ensures)

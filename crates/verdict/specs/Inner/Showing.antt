@@ -12,6 +12,12 @@ use Rattle.meetings.specs.Inner.Meeting.{Meeting}
 use Rattle.suspects.specs.Inner.Suspect.{OnChain}
 use Rattle.verdict.specs.Judging.{chain_bytes}
 
+-- which pair of which listing's bytes
+pub record PairOf : Type 0 where
+  pub bytes : List ℕ
+  pub first : ℕ
+  pub second : ℕ
+
 -- the rows p keep the pairs of the listing's bytes, the rows m who meets whom, and (a, b) lies on a chain
 pub record Chained (bytes p m : List ℕ) (a b : ℕ) : Type 0 where
   pub whole : Whole bytes
