@@ -30,6 +30,7 @@ fn clear_rows(question: Question, fence: Kind, listing: &Listing, f: &mut [u64; 
 }
 
 // Keeps of row a what f has there, and what others has. s is for the work: those two.
+#[tactic(auto, using(crate::proofs::Kept::row_kept))]
 fn keep_row(others: &[u64; 2], f: &[u64; WORDS], s: &mut [u64; 2], c: &mut [u64; WORDS], a: usize)
     requires { a < 128 }
     ensures { RowThinned (KeptIn others.now f.now a) c.old c.new a }

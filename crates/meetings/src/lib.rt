@@ -14,6 +14,7 @@ pub use nodes::gather;
 use rows::WORDS;
 
 // All that the rows of m have for some node of u, into the one row of s.
+#[tactic(auto, using(crate::proofs::Living::from_more, crate::proofs::Living::from_skip))]
 fn pour_all(n: usize, u: &[u64; 2], m: &[u64; WORDS], s: &mut [u64; 2])
     requires { (n ≤ 128) × Low n m.now }
     ensures { Members s.new n (FromSome u.now m.now n) }
@@ -27,6 +28,7 @@ fn pour_all(n: usize, u: &[u64; 2], m: &[u64; WORDS], s: &mut [u64; 2])
 }
 
 // Those of the accesses that overlap some writer, by the rows m, into the one row of s.
+#[tactic(auto, using(crate::proofs::Living::among_accesses))]
 fn live_accesses(
     n: usize,
     accesses: &[u64; 2],

@@ -13,6 +13,7 @@ use listing::Listing;
 use rows::WORDS;
 
 // Lets k lie inside: whoever reaches k reaches all that k reaches.
+#[tactic(auto, using(crate::proofs::Rounds::passed_skip, crate::proofs::Rounds::passed_or))]
 fn pass(n: usize, w: &mut [u64; WORDS], k: usize)
     requires { (n ≤ 128) × (k < n) }
     ensures { Passed w.old w.new n k }
@@ -25,6 +26,7 @@ fn pass(n: usize, w: &mut [u64; WORDS], k: usize)
 }
 
 // Turns links into walks that only nodes of m lie inside of.
+#[tactic(auto, using(crate::proofs::Trails::trails_skip, crate::proofs::Trails::trails_pass, crate::proofs::Trails::trails_all))]
 pub fn close(n: usize, m: &[u64; 2], w: &mut [u64; WORDS])
     requires { (n ≤ 128) × Low n w.old }
     ensures { Holds w.new n (Through n w.old m.now) }
@@ -60,6 +62,7 @@ fn links(listing: &Listing, w: &mut [u64; WORDS])
 }
 
 // Puts what b reaches into row a, if b is a node of m.
+#[tactic(auto, using(crate::proofs::Sweeps::pulled_or))]
 fn pull(n: usize, m: &[u64; 2], w: &mut [u64; WORDS], a: usize, b: u8)
     requires { (n ≤ 128) × (a < n) }
     ensures { Pulled m.now w.old w.new n a b }
@@ -121,6 +124,7 @@ fn settled(listing: &Listing, m: &[u64; 2], w: &[u64; WORDS]) -> bool
 const SWEEPS: usize = 8;
 
 // The walks of a listing that only nodes of m lie inside of.
+#[tactic(auto, using(listing::proofs::Nodes::nodes_length, crate::proofs::Sweeps::settled_walks, crate::proofs::Sweeps::closed_walks))]
 pub fn walks(listing: &Listing, m: &[u64; 2], w: &mut [u64; WORDS])
     ensures { Holds w.new (count_n listing.now) (Walked (nodes_of listing.now) m.now) }
 {

@@ -29,4 +29,4 @@ module _ {L : Listing} {n : ℕ} (few : Counted L n) {every : List ℕ} (all : M
 pub mask_reaches : {L : Listing} {n : ℕ} → Counted L n → {w : List ℕ} → Holds w n (Reaches L) → (a b : ℕ) → a < n → b < n
     → get_or w (2 * a + b / 64) 0 < 2 ^ 64 → Tells (masked w a b) (Reaches L a b)
 mask_reaches few {w} h a b la lb fits =
-    told_map _ _ (masked w a b) (λ g. (h.sound a b (omega (arith, few.small)) g).2) (h.whole a b la lb) (tells_has w a b fits)
+    told_map _ _ (masked w a b) (λ g. (h.sound a b (omega (arith, few.small)) g).2) (h.whole a b la lb) (tells_has w a b)

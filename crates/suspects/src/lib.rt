@@ -54,6 +54,7 @@ pub fn exchanged_rows(
 
 // The pairs, who meets whom, and the suspects: the pairs on a chain with a walk that no barrier bars. i is for the work: it keeps who leads back
 // to whom, and then the walks without barrier.
+#[tactic(auto, using(crate::proofs::Suspected::suspects_hold))]
 pub fn suspects(
     question: Question,
     listing: &Listing,

@@ -1,7 +1,0 @@
--- `barriers::keep_row` meets its contract.
-use Rattle.barriers.proofs.Kept.{row_kept}
-use Rattle.barriers.proofs.keep_row.Goals as goal
-
-pub returns : goal.returns
-returns c =
-    row_kept _ _ _ _ _ _ _ c.copy_row.ensures c.pour.ensures c.sift.ensures
