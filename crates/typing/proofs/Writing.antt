@@ -55,22 +55,16 @@ module _ (s old new : List ℕ) (room : length old ≡ record_at NODES) where
 
   -- WHAT IS REFUSED IS SAID
   pub tells : (a : Result ℕ Reason) (r : Reason) → Typed s old (typed_says a) new → a ≡ Err r → out.TypedOutput s (refusal_line (number r) (place r))
-  tells a reason h e = go (typed_says a) new h (ap typed_says e)
+  tells a r h e = go (number r) (place r) (typed_says a) new h (ap typed_says e)
     where
-      abbrev k : ℕ
-      k = number reason
-
-      abbrev p : ℕ
-      p = place reason
-
-      go : (x : Answer) (m : List ℕ) → Typed s old x m → x ≡ refusal k p → out.TypedOutput s (refusal_line k p)
-      go x m (bad p' b) q =
+      go : (k p : ℕ) (x : Answer) (m : List ℕ) → Typed s old x m → x ≡ refusal k p → out.TypedOutput s (refusal_line k p)
+      go k p x m (bad p' b) q =
           let k-is : 17 ≡ k = ap (λ (y : Answer). y.first) q in
           let p-is : p' ≡ p = ap (λ (y : Answer). y.second) q in
           subst (λ (i : ℕ). out.TypedOutput s (refusal_line i p)) k-is (subst (λ (i : ℕ). out.TypedOutput s (refusal_line 17 i)) p-is (out.bad p' b))
-      go x m (refuses t k' p' r f) q =
+      go k p x m (refuses t k' p' r f) q =
           let k-is : k' ≡ k = ap (λ (y : Answer). y.first) q in
           let p-is : p' ≡ p = ap (λ (y : Answer). y.second) q in
           let same = out.refuses t k' p' r (ap (λ (i : ℕ). first_of (typed_rules t i)) (sym room) ∙ f) in
           subst (λ (i : ℕ). out.TypedOutput s (refusal_line i p)) k-is (subst (λ (i : ℕ). out.TypedOutput s (refusal_line k' i)) p-is same)
-      go x m (writes t r f) q = let z : ◌≡◌ {A = ℕ} 0 2 = ap (λ (y : Answer). y.kind) q in absurd (omega arith)
+      go k p x m (writes t r f) q = let z : ◌≡◌ {A = ℕ} 0 2 = ap (λ (y : Answer). y.kind) q in absurd (omega arith)
