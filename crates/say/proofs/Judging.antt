@@ -68,9 +68,10 @@ judged_line_lem : (f : Refusal) (q : ℕ) (L : Listing) (old new : List ℕ) (r 
 judged_line_lem passed q L old new r t = (t.verdict, t.judged, verdict_line_lem t.verdict r old new t.says t.writes)
 judged_line_lem (refused k p) q L old new r h = refusal_told (bytes "ROBUST\n") k p r new h.0
 
--- THE JUDGE PROGRAM'S LINE, of a question and a listing's bytes
-pub judge_line : (q : ℕ) (s old new : List ℕ) (r : Result Decided Reason)
-    → CHAIN ≤ length old → JudgePromise q s old new (judge_says r) → JudgeLine (q ∷ s) (judged_line r new)
-judge_line q s old new r h p =
-    judged_line_lem (first_of (ask_rules q s)) q (nodes_of s) old new r
-    (subst (λ (f : Refusal). Judging f q (nodes_of s) old new (judge_says r)) (asked q s old h) p)
+-- THE JUDGE PROGRAM'S LINE, where the input has a question and the rest is the listing
+pub judge_line : (input : List ℕ) (x q : ℕ) (s old new : List ℕ) (r : Result Decided Reason) → input ≡ x ∷ s → q ≡ x
+    → CHAIN ≤ length old → JudgePromise q s old new (judge_says r) → JudgeLine input (judged_line r new)
+judge_line input x q s old new r whole same h p =
+    let promise = subst (λ (f : Refusal). Judging f q (nodes_of s) old new (judge_says r)) (asked q s old h) p in
+    let line = judged_line_lem (first_of (ask_rules q s)) q (nodes_of s) old new r promise in
+    subst (λ (t : List ℕ). JudgeLine t (judged_line r new)) (ap (λ (y : ℕ). y ∷ s) same ∙ sym whole) line

@@ -70,10 +70,12 @@ module _ (old : List ℕ) (room : NODES ≤ length old) (none : (n j : ℕ) → 
       )
   proposed_line_lem (refused k p) q s new r h = refusal_told k p r new h.0
 
-  -- THE PROPOSER'S LINE, of a question and a listing's bytes
-  pub propose_line : (q : ℕ) (s new : List ℕ) (r : Result ℕ Reason)
-      → ProposePromise q s old new (propose_says r) → ProposeLine (q ∷ s) (proposed_line r new)
-  propose_line q s new r p = proposed_line_lem (first_of (ask_rules q s)) q s new r p
+  -- THE PROPOSER'S LINE, where the input has a question and the rest is the listing
+  pub propose_line : (input : List ℕ) (x q : ℕ) (s new : List ℕ) (r : Result ℕ Reason) → input ≡ x ∷ s → q ≡ x
+      → ProposePromise q s old new (propose_says r) → ProposeLine input (proposed_line r new)
+  propose_line input x q s new r whole same p =
+      subst (λ (t : List ℕ). ProposeLine t (proposed_line r new)) (ap (λ (y : ℕ). y ∷ s) same ∙ sym whole)
+      (proposed_line_lem (first_of (ask_rules q s)) q s new r p)
 
 -- a buffer of zeros has no place
 pub no_places : (k n j : ℕ) → places_of j (drop n (replicate k 0)) ≡ []

@@ -10,8 +10,8 @@ ghost use Rattle.say.specs.Lines.{JudgeLinePromise, ProposeLinePromise};
 ghost use Rattle.say.specs.Lines.{INPUT as Lines-as-INPUT};
 
 pub use line::{judged, proposed, refusal, refused, told, unasked};
-pub use program::answer;
 use listing::Listing;
+pub use program::answer;
 use verdict::CHAIN_BYTES;
 
 // A question, the longest listing, and one byte more: an input that is cut there has the same line (proofs/Cut.antt).
