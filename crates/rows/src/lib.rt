@@ -40,7 +40,7 @@ impl<const N: usize> Model for Rows<N> {
     ghost view = { λ r. r.words };
 }
 
-// A set of nodes: one row.
+// A set of nodes: one row. How many nodes there are goes beside it as a number: five relations would keep it five times.
 pub type Set = Rows<2>;
 
 // A relation: a row a node.
@@ -204,7 +204,7 @@ impl<const N: usize> Rows<N> {
         self.store(a, both);
     }
 
-    // Keeps of row a what row k of u has too.
+    // Keeps of row a what row k of u has too. One function over the operator, for this and `pour`, would be no plainer.
     pub fn sift<const M: usize>(&mut self, a: usize, u: &Rows<M>, k: usize)
         requires { (2 * a + 1 < N) × (2 * k + 1 < M) }
         ensures { Sifted u.now self.old self.new a k }
@@ -275,7 +275,7 @@ impl<const N: usize> Rows<N> {
         whole & self.of(a) == whole
     }
 
-    // One of the rows before row x that is the same, or x where none that is near is.
+    // One of the rows before row x that is the same, or x where none that is near is. No `Option`: one test, `y < x`, is as plain as a `match`.
     pub fn earlier(&self, x: usize) -> usize
         requires { 2 * x + 1 < N }
         ensures { Earlier self.now x result }
