@@ -40,7 +40,7 @@ fn write<W: Write>(to: &mut W, name: &str, bytes: &[u8], map: &[u8]) -> io::Resu
     let mut out = [0u8; Listing::LONGEST];
     match patch::write(bytes, map, &mut out) {
         Ok(length) => print::shown(to, &out[..length]),
-        Err(reason) => print::refused(to, reason),
+        Err(reason) => print::refused_for(to, reason),
     }
 }
 

@@ -20,7 +20,7 @@ fn write<W: Write>(to: &mut W, bytes: &[u8], map: &[u8]) -> io::Result<()> {
     let mut out = [0u8; Listing::LONGEST];
     match patch::write(bytes, map, &mut out) {
         Ok(length) => print::text(to, &out[..length]),
-        Err(reason) => print::refused(to, reason),
+        Err(reason) => print::refused_for(to, reason),
     }
 }
 
@@ -28,7 +28,7 @@ fn fence<W: Write>(to: &mut W, question: u64, bytes: &[u8]) -> io::Result<()> {
     let mut map = [0u8; Listing::NODES];
     match proposal::propose(question, bytes, &mut map) {
         Ok(_) => write(to, bytes, &map[..map_length(bytes)]),
-        Err(reason) => print::refused(to, reason),
+        Err(reason) => print::refused_for(to, reason),
     }
 }
 
@@ -38,6 +38,6 @@ fn main(rt: HostRuntime) -> io::Result<()> {
     let mut out = rt.stdout();
     match input[..n].split_first() {
         Some((question, bytes)) => fence(&mut out, u64::from(*question), bytes),
-        None => print::refused(&mut out, Reason::Question),
+        None => print::refused_for(&mut out, Reason::Question),
     }
 }

@@ -37,12 +37,16 @@ fn line<W: Write, F: FnOnce(&mut [u8; LINE]) -> usize>(to: &mut W, put: F) -> io
 }
 
 // The refusal, without the line's end.
-pub fn refusal<W: Write>(to: &mut W, reason: Reason) -> io::Result<()> {
-    line(to, |line| say::refusal(line, reason))
+pub fn refusal<W: Write>(to: &mut W, number: u8, place: usize) -> io::Result<()> {
+    line(to, |line| say::refusal(line, number, place))
 }
 
-pub fn refused<W: Write>(to: &mut W, reason: Reason) -> io::Result<()> {
-    line(to, |line| say::refused(line, reason))
+pub fn refused<W: Write>(to: &mut W, number: u8, place: usize) -> io::Result<()> {
+    line(to, |line| say::refused(line, number, place))
+}
+
+pub fn refused_for<W: Write>(to: &mut W, reason: Reason) -> io::Result<()> {
+    line(to, |line| say::refused_for(line, reason))
 }
 
 pub fn judged<W: Write>(

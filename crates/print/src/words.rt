@@ -20,7 +20,7 @@ fn place_of<W: Write>(to: &mut W, reason: Reason) -> io::Result<()> {
 
 // The refusal line for a person: what the number means, too.
 pub fn explained<W: Write>(to: &mut W, reason: Reason) -> io::Result<()> {
-    refusal(to, reason)?;
+    refusal(to, reason.number(), reason.place())?;
     write!(to, ": {reason}")?;
     place_of(to, reason)?;
     text(to, b"\n")

@@ -9,7 +9,7 @@ ghost use Rattle.io.specs.Counts.{IsPrefixLen};
 ghost use Rattle.say.specs.Lines.{JudgeLinePromise, ProposeLinePromise};
 ghost use Rattle.say.specs.Lines.{INPUT as Lines-as-INPUT};
 
-pub use line::{judged, proposed, refusal, refused, told, unasked};
+pub use line::{judged, proposed, refusal, refused, refused_for, told, unasked};
 use listing::Listing;
 pub use program::answer;
 use verdict::CHAIN_BYTES;

@@ -1,7 +1,6 @@
 // A program's line, put into a lent buffer.
 ghost use Rattle.std.specs.Prelude.{◌+◌, ◌*◌, ◌≤◌, length};
 ghost use Rattle.io.specs.Counts.{IsPrefixLen};
-ghost use Rattle.listing.specs.Reason as rules;
 ghost use Rattle.lines.specs.Inner.Put.{Put};
 ghost use Rattle.lines.specs.Inner.Growing.{Grows};
 ghost use Rattle.say.specs.Lines.{refusal_words, refusal_line, open_line, proposal_line, Lined};
@@ -14,14 +13,14 @@ use verdict::{CHAIN_BYTES, Verdict};
 
 // A refusal, without the line's end.
 #[tactic(auto, using(lines::proofs::Decimal::next_room))]
-fn put_refusal(line: &mut Line, reason: Reason)
+fn put_refusal(line: &mut Line, number: u8, place: usize)
     requires { line.old.end + 49 ≤ length line.old.buffer.now }
-    ensures put { Grows line.old (refusal_words (rules.number reason) (rules.place reason)) line.new }
+    ensures put { Grows line.old (refusal_words number place) line.new }
     ensures upper_bound { line.new.end ≤ line.old.end + 49 }
 {
     line.words(b"REFUSED");
-    line.next(usize::from(reason.number()));
-    line.next(reason.place());
+    line.next(usize::from(number));
+    line.next(place);
 }
 
 // The pairs of a chain, as far as its buffer goes.
@@ -49,24 +48,32 @@ fn places(line: &mut Line, map: &[u8])
     }
 }
 
-// The refusal, without the line's end.
-pub fn refusal(line: &mut [u8; LINE], reason: Reason) -> usize
-    ensures put { Put line.old 0 (refusal_words (rules.number reason) (rules.place reason)) line.new result × (result ≤ 49) }
+// The refusal, without the line's end. By its numbers, of which a line may have any: its promise is of every number.
+pub fn refusal(line: &mut [u8; LINE], number: u8, place: usize) -> usize
+    ensures put { Put line.old 0 (refusal_words number place) line.new result × (result ≤ 49) }
     ensures prefix_len { IsPrefixLen result line.new }
 {
     let mut line = Line::new(line);
-    put_refusal(&mut line, reason);
+    put_refusal(&mut line, number, place);
     line.end
 }
 
-pub fn refused(line: &mut [u8; LINE], reason: Reason) -> usize
-    ensures lined { Lined (reason_line reason) line.old line.new result }
+pub fn refused(line: &mut [u8; LINE], number: u8, place: usize) -> usize
+    ensures lined { Lined (refusal_line number place) line.old line.new result }
     ensures prefix_len { IsPrefixLen result line.new }
 {
     let mut line = Line::new(line);
-    put_refusal(&mut line, reason);
+    put_refusal(&mut line, number, place);
     line.words(b"\n");
     line.end
+}
+
+// The refusal for a reason.
+pub fn refused_for(line: &mut [u8; LINE], reason: Reason) -> usize
+    ensures lined { Lined (reason_line reason) line.old line.new result }
+    ensures prefix_len { IsPrefixLen result line.new }
+{
+    refused(line, reason.number(), reason.place())
 }
 
 // Empty input asks no question.
@@ -74,7 +81,7 @@ pub fn unasked(line: &mut [u8; LINE]) -> usize
     ensures lined { Lined (refusal_line 1 0) line.old line.new result }
     ensures prefix_len { IsPrefixLen result line.new }
 {
-    refused(line, Reason::Question)
+    refused_for(line, Reason::Question)
 }
 
 #[tactic(auto, using(lines::proofs::Decimal::next_room))]
@@ -121,7 +128,7 @@ pub fn told(
                 count,
             },
         ) => open(line, first, second, count, chain),
-        Err(reason) => refused(line, reason),
+        Err(reason) => refused_for(line, reason),
     }
 }
 
@@ -160,6 +167,6 @@ pub fn proposed(
 {
     match answer {
         Ok(places) => offered(line, places, map),
-        Err(reason) => refused(line, reason),
+        Err(reason) => refused_for(line, reason),
     }
 }

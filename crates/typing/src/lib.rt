@@ -32,6 +32,6 @@ pub fn typed(text: &[u8], out: &mut [u8; LINE]) -> usize
             line.words(&bytes[..length]);
             line.end
         }
-        Err(reason) => say::refused(out, reason),
+        Err(reason) => say::refused_for(out, reason),
     }
 }

@@ -23,4 +23,4 @@ returns-in-Ok c =
 pub returns-in-Err : goal.returns-in-Err
 returns-in-Err c =
     let said = tells _ _ _ refl c.listing.result _ c.listing.ensures c.in-Err.is in
-    record { typed_promise = (_, said, c.refused.ensures.lined); prefix_len = c.refused.ensures.prefix_len }
+    record { typed_promise = (_, said, c.refused_for.ensures.lined); prefix_len = c.refused_for.ensures.prefix_len }

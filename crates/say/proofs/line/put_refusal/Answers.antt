@@ -1,5 +1,5 @@
 -- What the search leaves of `say::line::put_refusal`.
-use mathlib.Core.Path.{subst₂, ◌∙◌}
+use mathlib.Core.Path.{subst}
 use Prim.Native.Nat.{ℕ}
 use Rattle.lines.specs.Inner.Growing.{Grows}
 use Rattle.lines.proofs.Growing.{both_grow}
@@ -8,5 +8,5 @@ use Rattle.say.proofs.line.put_refusal.Goals as goal
 
 pub returns-clause-put : goal.returns-clause-put
 returns-clause-put c =
-    subst₂ (λ (k p : ℕ). Grows c.args.line.now (refusal_words k p) c.next-2.new.self) (c.from.ensures ∙ c.number.ensures) c.place.ensures
+    subst (λ (k : ℕ). Grows c.args.line.now (refusal_words k c.args.place) c.next-2.new.self) c.from.ensures
     (both_grow c.words.ensures (both_grow c.next.ensures c.next-2.ensures))
