@@ -6,5 +6,10 @@ use std::io;
 
 fn main(rt: HostRuntime) -> io::Result<()> {
     let mut input = acceptance::room();
-    say::answer(&mut rt.stdin(), &mut rt.stdout(), &mut input, acceptance::accept)
+    say::answer(
+        &mut rt.stdin(),
+        &mut rt.stdout(),
+        &mut input,
+        acceptance::accept,
+    )
 }

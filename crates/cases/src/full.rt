@@ -17,14 +17,6 @@ pub fn put_full(out: &mut [u8; Listing::LONGEST], n: u8)
     listing::put_heading(&mut *out, 1, 1, n);
     for i in 0..Listing::NODES {
         let next = (i + 1) % Listing::NODES;
-        listing::put_record(
-            &mut *out,
-            i,
-            0,
-            Kind::Write,
-            0,
-            next as u8,
-            listing::NONE,
-        );
+        listing::put_record(&mut *out, i, 0, Kind::Write, 0, next as u8, listing::NONE);
     }
 }

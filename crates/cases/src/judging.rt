@@ -98,18 +98,16 @@ const EXCHANGES: [(&str, &[u8]); 2] = [
 ];
 
 // A fence on one branch of two.
-const BRANCHES: [(&str, &[u8]); 1] = [
-    (
-        "H",
-        b"ORD\x01\x00\x02\x06\
+const BRANCHES: [(&str, &[u8]); 1] = [(
+    "H",
+    b"ORD\x01\x00\x02\x06\
           \x00\x02\x01\x00\x01\x02\
           \x00\x04\x00\x00\x02\xFF\
           \x00\x01\x02\x00\xFF\xFF\
           \x01\x02\x02\x00\x04\xFF\
           \x01\x04\x00\x00\x05\xFF\
           \x01\x01\x01\x00\xFF\xFF",
-    ),
-];
+)];
 
 // A block of cells, and one cell in its place; a write to a block that follows itself.
 const BLOCKS: [(&str, &[u8]); 3] = [
@@ -144,25 +142,20 @@ const ONE_ROUTINE: [(&str, &[u8]); 2] = [
           \x00\x02\x00\x00\x01\xFF\
           \x00\x02\x00\x00\xFF\xFF",
     ),
-    (
-        "M",
-        b"ORD\x01\x00\x01\x00",
-    ),
+    ("M", b"ORD\x01\x00\x01\x00"),
 ];
 
 // Pairs with a neighbour before and one after that close no chain.
-const NEIGHBOURS: [(&str, &[u8]); 1] = [
-    (
-        "neighbours",
-        b"ORD\x01\x00\x03\x06\
+const NEIGHBOURS: [(&str, &[u8]); 1] = [(
+    "neighbours",
+    b"ORD\x01\x00\x03\x06\
           \x00\x02\x01\x00\x01\xFF\
           \x00\x01\x02\x00\xFF\xFF\
           \x01\x02\x02\x00\x03\xFF\
           \x01\x01\x03\x00\xFF\xFF\
           \x02\x01\x04\x00\x05\xFF\
           \x02\x02\x01\x00\xFF\xFF",
-    ),
-];
+)];
 
 // As many nodes as a listing may have, and one more.
 fn sizes<W: Write>(to: &mut W) -> io::Result<()> {

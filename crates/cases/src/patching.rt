@@ -50,13 +50,7 @@ fn case_a<W: Write>(to: &mut W, a: &[u8]) -> io::Result<()> {
     case(to, "E", a, b"\x01\x00\x01\x00")?;
     ask(to, "E", 0, a, b"\x01\x00\x01\x00")?;
     ask(to, "A with a map of 3 bytes", 1, a, b"\x01\x00\x01")?;
-    ask(
-        to,
-        "A with a map of 5 bytes",
-        1,
-        a,
-        b"\x01\x00\x02\x00\x00",
-    )?;
+    ask(to, "A with a map of 5 bytes", 1, a, b"\x01\x00\x02\x00\x00")?;
     ask(to, "A with a map byte 2", 1, a, b"\x01\x00\x02\x03")?;
     propose(to, "propose A", 1, a)?;
     propose(to, "propose A", 2, a)?;
@@ -69,8 +63,14 @@ const FENCES: [(&str, &[u8]); 9] = [
     ("write without a place", b"\x00\x00\x00\x00\x00"),
     ("write after a plain node", b"\x01\x00\x00\x00\x00"),
     ("write after a fence", b"\x00\x01\x00\x00\x00"),
-    ("write after a node with two successors", b"\x00\x00\x01\x00\x00"),
-    ("write after a node that succeeds itself", b"\x00\x00\x00\x01\x00"),
+    (
+        "write after a node with two successors",
+        b"\x00\x00\x01\x00\x00",
+    ),
+    (
+        "write after a node that succeeds itself",
+        b"\x00\x00\x00\x01\x00",
+    ),
     ("write after the last node", b"\x00\x00\x00\x00\x01"),
     ("write after every node", b"\x01\x01\x01\x01\x01"),
     ("write with a map of 4 bytes", b"\x01\x01\x01\x01"),

@@ -79,11 +79,13 @@ impl From<Result<Verdict, Reason>> for Answer {
     fn from(judged: Result<Verdict, Reason>) -> Answer {
         match judged {
             Ok(Verdict::Robust) => done(0, 0, 0),
-            Ok(Verdict::Open {
-                first,
-                second,
-                count,
-            }) => open(first, second, count),
+            Ok(
+                Verdict::Open {
+                    first,
+                    second,
+                    count,
+                },
+            ) => open(first, second, count),
             Err(reason) => Answer::from(reason),
         }
     }
