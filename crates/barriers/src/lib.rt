@@ -56,13 +56,7 @@ fn is_empty(n: usize, s: &Set) -> bool
 }
 
 // Keeps of the pairs that the fence looks at those with a walk that it does not bar, where the listing has such a fence. v is for the work.
-fn keep_past(
-    question: Question,
-    fence: Kind,
-    listing: &Listing,
-    v: &mut Relation,
-    c: &mut Relation,
-)
+fn keep_past(question: Question, fence: Kind, listing: &Listing, v: &mut Relation, c: &mut Relation)
     requires { Cleared (asked question) listing.now c.old }
     ensures { Thinned (ClearIfLooked (asked question) (number_of fence) (nodes_of listing.now)) c.old c.new (count_n listing.now) }
 {

@@ -67,11 +67,7 @@ fn start(n: usize, t: &Set, x: usize) -> u8
     requires { x < 128 }
     ensures { Starts n t.now x result }
 {
-    if x < n && t.has(0, x) {
-        0
-    } else {
-        UNREACHED
-    }
+    if x < n && t.has(0, x) { 0 } else { UNREACHED }
 }
 
 // The same at every node.
@@ -140,7 +136,7 @@ impl Steps<'_> {
     }
 }
 
-// Writes a pair at i.
+// Writes a pair at i. No plainer by chunks of two: how many pairs there are is counted already.
 fn write_pair(out: &mut [u8], i: usize, c: u8, y: u8)
     requires { i + 1 < length out.old }
     ensures { Wrote out.old out.new i c y }
@@ -150,6 +146,7 @@ fn write_pair(out: &mut [u8], i: usize, c: u8, y: u8)
 }
 
 // The least of the shortest courses from x to a node of t, hops by m, pairs by w, into the front of out: how many pairs it has. v and d are for the work.
+// Eight parameters: what is lent for the work has no other fact in common with what is asked.
 pub fn chain(
     n: usize,
     m: &Relation,

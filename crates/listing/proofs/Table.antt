@@ -2,10 +2,10 @@
 use mathlib.Core.Path.{◌≡◌, refl, sym, ap, ◌∙◌}
 use mathlib.Core.Bool.{Bool, true, false, cond}
 use mathlib.Core.List.{List, [], ◌∷◌, ◌++◌}
-use Prim.Native.Nat.{ℕ, zero, suc}
+use Prim.Native.Nat.{ℕ}
 use native.Mathlib.Omega.{arith}
 use Rattle.listing.specs.Rules.{Rule, Refusal, passed, refused, first_of, FirstRow, here, later, NoneApplies}
-use Rattle.listing.specs.Inner.Numbered.{or_else, numbered}
+use Rattle.listing.specs.Inner.Numbered.{or_else}
 
 -- a row that does not apply, and one that does
 pub row_passes : {t : Bool} (k p : ℕ) (y : Refusal) → t ≡ false → cond t (refused k p) y ≡ y
@@ -45,14 +45,6 @@ pass_first a b e = passed_first (first_of a) (first_of b) (sym (first_of_append 
 
 pub pass_then : (a b : List Rule) → first_of (a ++ b) ≡ passed → first_of b ≡ passed
 pass_then a b e = passed_then (first_of a) (first_of b) (sym (first_of_append a b) ∙ e)
-
--- the number by which a check says its refusal
-pub numbered_some : (k p : ℕ) → (k ≡ 0 → ⊥) → numbered k p ≡ refused k p
-numbered_some zero p h = absurd (h refl)
-numbered_some (suc k) p h = refl
-
-pub numbered_none : (k p : ℕ) → k ≡ 0 → numbered k p ≡ passed
-numbered_none k p h = rw h
 
 -- nothing is refused exactly if no row applies
 off : (t : Bool) (k p : ℕ) (y : Refusal) → cond t (refused k p) y ≡ passed → (t ≡ false) × (y ≡ passed)

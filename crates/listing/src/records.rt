@@ -103,6 +103,7 @@ impl<'a> Listing<'a> {
     }
 
     #[tactic(auto, using(crate::proofs::Nodes::nodes_at_lem))]
+    // A successor is given as the byte that it is, and no `Option`: its reader compares it with the count first, which `NONE` fails too.
     pub fn first(&self, i: usize) -> u8
         requires { i < count_n self.now }
         ensures { result ≡ (node (nodes_of self.now) i).first }

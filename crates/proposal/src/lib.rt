@@ -35,13 +35,7 @@ fn draw(search: &Search, marks: &mut [u8])
 }
 
 // The same over rows that were made ready for the search. Here they are lent no longer than it takes.
-fn draw_over(
-    question: Question,
-    listing: &Listing,
-    c: &Relation,
-    i: &Relation,
-    marks: &mut [u8],
-)
+fn draw_over(question: Question, listing: &Listing, c: &Relation, i: &Relation, marks: &mut [u8])
     requires { Prepared (asked question) listing.now c.now i.now × (count_n listing.now ≤ length marks.old) }
     ensures { Marked (asked question) (nodes_of listing.now) marks.new (count_n listing.now) }
 {

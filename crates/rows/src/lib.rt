@@ -40,7 +40,7 @@ impl<const N: usize> Model for Rows<N> {
     ghost view = { λ r. r.words };
 }
 
-// A set of nodes: one row.
+// A set of nodes: one row. How many nodes there are goes beside it as a number: five relations would keep it five times.
 pub type Set = Rows<2>;
 
 // A relation: a row a node.
@@ -84,7 +84,7 @@ impl BitAnd for Row {
     }
 }
 
-// The least bit of x from b on, or 64 where there is none. No `Option` here and in `search`: what is added to it and `min` take a number.
+// The least bit of x from b on, or 64 where there is none. No `Option` here and in `search`: `min` takes a number, and so judging is quicker.
 fn lowest(x: u64, b: usize) -> usize
     requires { b < 64 }
     ensures { Least (IsSet x) b 64 result }
@@ -96,7 +96,7 @@ fn lowest(x: u64, b: usize) -> usize
     b + y.trailing_zeros() as usize
 }
 
-// Whether b stands in row a of the words w. This and the next two take words that are lent, so that `Nodes` needs no N.
+// Whether b stands in row a of the words w. This and `search` take words that are lent, so that `Nodes` needs no N.
 fn stands(w: &[u64], a: usize, b: usize) -> bool
     requires { (2 * a + 1 < length w.now) × (b < 128) }
     ensures { Tells result (Has w.now a b) }
@@ -124,15 +124,6 @@ fn search(w: &[u64], a: usize, b: usize, n: usize) -> usize
         return r.min(n);
     }
     (lowest(w[2 * a + 1], 0) + 64).min(n)
-}
-
-// The same, if there is one.
-fn least(w: &[u64], a: usize, b: usize, n: usize) -> Option<usize>
-    requires { (2 * a + 1 < length w.now) × (b ≤ n) × (n ≤ 128) }
-    ensures { LeastIfAny (Has w.now a) b n result }
-{
-    let r = search(w, a, b, n);
-    if r < n { Some(r) } else { None }
 }
 
 // How far back a row that is the same is looked for.
@@ -213,7 +204,7 @@ impl<const N: usize> Rows<N> {
         self.store(a, both);
     }
 
-    // Keeps of row a what row k of u has too.
+    // Keeps of row a what row k of u has too. One function over the operator, for this and `pour`, would be no plainer.
     pub fn sift<const M: usize>(&mut self, a: usize, u: &Rows<M>, k: usize)
         requires { (2 * a + 1 < N) × (2 * k + 1 < M) }
         ensures { Sifted u.now self.old self.new a k }
@@ -250,7 +241,7 @@ impl<const N: usize> Rows<N> {
         requires { (2 * a + 1 < N) × (b ≤ n) × (n ≤ 128) }
         ensures { LeastIfAny (Has self.now a) b n result }
     {
-        least(&self.words, a, b, n)
+        self.members(a, b, n).next()
     }
 
     // The nodes of row a from b on and below n, in order.
@@ -284,7 +275,7 @@ impl<const N: usize> Rows<N> {
         whole & self.of(a) == whole
     }
 
-    // One of the rows before row x that is the same, or x where none that is near is.
+    // One of the rows before row x that is the same, or x where none that is near is. No `Option`: one test, `y < x`, is as plain as a `match`.
     pub fn earlier(&self, x: usize) -> usize
         requires { 2 * x + 1 < N }
         ensures { Earlier self.now x result }
@@ -337,11 +328,12 @@ impl<'a> Iterator for Nodes<'a> {
     ghost remaining = { λ s. at_most (s.n - s.place) };
 
     fn next(&mut self) -> Option<usize> {
-        let node = least(self.words, self.a, self.place, self.n);
-        self.place = match node {
-            Some(r) => r + 1,
-            None => self.n,
-        };
-        node
+        let r = search(self.words, self.a, self.place, self.n);
+        if r < self.n {
+            self.place = r + 1;
+            return Some(r);
+        }
+        self.place = r;
+        None
     }
 }

@@ -13,14 +13,7 @@ use meetings::gather;
 use rows::Relation;
 
 // The pairs from a whose end meets a node of row a of h, into row a of w.
-fn back_row(
-    n: usize,
-    p: &Relation,
-    m: &Relation,
-    h: &Relation,
-    w: &mut Relation,
-    a: usize,
-)
+fn back_row(n: usize, p: &Relation, m: &Relation, h: &Relation, w: &mut Relation, a: usize)
     requires { (n ≤ 128) × (a < n) }
     ensures { RowGrown (RowBack p.now m.now h.now) w.old w.new a n }
 {
@@ -43,13 +36,7 @@ fn back_rows(n: usize, p: &Relation, m: &Relation, h: &Relation, w: &mut Relatio
 }
 
 // The pairs on a chain. h is for the work: who leads back to whom. w keeps the pairs turned round before.
-pub fn chain_rows(
-    listing: &Listing,
-    p: &Relation,
-    m: &Relation,
-    h: &mut Relation,
-    w: &mut Relation,
-)
+pub fn chain_rows(listing: &Listing, p: &Relation, m: &Relation, h: &mut Relation, w: &mut Relation)
     requires { Holds p.now (count_n listing.now) (Pair (nodes_of listing.now))
         × Holds m.now (count_n listing.now) (Meeting (nodes_of listing.now)) }
     ensures { Holds w.new (count_n listing.now) (OnChain (nodes_of listing.now)) }

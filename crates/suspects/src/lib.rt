@@ -34,12 +34,7 @@ fn pair_rows(listing: &Listing, p: &mut Relation)
 }
 
 // Between which accesses some walk has an RMW inside. v is for the work: the pairs whose second node is an RMW.
-pub fn exchanged_rows(
-    listing: &Listing,
-    p: &Relation,
-    v: &mut Relation,
-    i: &mut Relation,
-)
+pub fn exchanged_rows(listing: &Listing, p: &Relation, v: &mut Relation, i: &mut Relation)
     requires { Holds p.now (count_n listing.now) (Pair (nodes_of listing.now)) }
     ensures { Holds i.new (count_n listing.now) (Exchanged (nodes_of listing.now)) }
 {

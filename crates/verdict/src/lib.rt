@@ -15,7 +15,7 @@ use order::Question;
 use rows::Relation;
 use shown::ShownChain;
 
-// What judging answers where nothing is refused.
+// What judging answers where nothing is refused. No `Option`: ROBUST is an answer with a name of its own.
 #[derive(Drop)]
 pub enum Verdict {
     Robust,
@@ -30,12 +30,7 @@ pub enum Verdict {
 pub const CHAIN_BYTES: usize = 2 * (Listing::NODES + 1);
 
 // The first pair that fails, over rows that were made ready for the search. Here they are lent no longer than it takes.
-fn first_failing(
-    question: Question,
-    listing: &Listing,
-    c: &Relation,
-    i: &Relation,
-) -> Option<Found>
+fn first_failing(question: Question, listing: &Listing, c: &Relation, i: &Relation) -> Option<Found>
     requires { Prepared (asked question) listing.now c.now i.now }
     ensures { NextIfAny (asked question) (nodes_of listing.now) (count_n listing.now) 0 0 result }
 {

@@ -29,7 +29,8 @@ loop-a-init c =
 abbrev left : After-from-in-loop-a → List ℕ
 left m = pairs_in (take_count m.next.new.self) (iter_rest (take_source m.next.new.self))
 
-next : (m : After-from-in-loop-a) → pairs_in (take_count m.loop-a.a-iterator) (iter_rest (take_source m.loop-a.a-iterator)) ≡ pair m.from.result m.from-in-loop-a.result ++ left m
+next : (m : After-from-in-loop-a)
+    → pairs_in (take_count m.loop-a.a-iterator) (iter_rest (take_source m.loop-a.a-iterator)) ≡ pair m.from.result m.from-in-loop-a.result ++ left m
 next m = pair_next _ _ m.from.ensures m.from-in-loop-a.ensures m.in-Some.ensures.steps.0 m.in-Some.ensures.steps.1
 
 pub pair-requires : goal.pair-requires
