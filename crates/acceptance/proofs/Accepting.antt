@@ -88,11 +88,6 @@ module _ (l : List ℕ) (a b n : ℕ) (low : a ≤ length l) (end : b ≡ min (a
       ∙ sym (drop-drop kept a l)
       ∙ (most n (drop a l)).1
 
--- empty input
-pub accept_empty : (input : List ℕ) → length input ≡ 0 → AcceptLine input (refusal_line 1 0)
-accept_empty [] e = refl
-accept_empty (x ∷ s) e = absurd (omega (arith, e))
-
 -- THE ACCEPTOR'S LINE, where the input has a question
 pub accept_line : (input : List ℕ) (q a b : ℕ) {old new : List ℕ} {r : ℕ}
     → (length input ≡ 0 → ⊥) → q ≡ byte input 0 → a ≡ min 2 (length input) → b ≡ min (a + byte input 1) (length input)

@@ -19,7 +19,7 @@ pub const INPUT: usize = 1 + 1 + 255 + Listing::LONGEST + 1;
 // As many nodes as a byte can name.
 const NAMES: usize = 256;
 
-// Zeros for a program's input.
+// Zeros for a program's input, of a size of its own (say::room).
 pub fn room() -> [u8; INPUT]
     ensures { Accept-as-INPUT ≡ length result }
 {

@@ -1,4 +1,5 @@
 // Reads a question, one byte, and a listing from standard input, and writes the listing with the proposed fences put in.
+// No plainer by say::answer: what it writes is no line, and is written in two ways.
 #![tactic(auto)]
 
 ghost use Rattle.std.specs.Prelude.{◌≤◌};

@@ -20,7 +20,8 @@ pub const INPUT: usize = 1 + Listing::LONGEST + 1;
 // OPEN with three numbers of 64 bits, as many pairs as a chain buffer has, and the line's end.
 pub const LINE: usize = 4 + 3 * 21 + CHAIN_BYTES / 2 * 8 + 1;
 
-// Zeros for a program's input. A program with another has its own: the clause holds the size to that of the program's promise.
+// Zeros for a program's input. No plainer for any size: acceptance and typing have rooms of their own, since each clause holds the
+// size to the one that the program's promise names.
 pub fn room() -> [u8; INPUT]
     ensures { Lines-as-INPUT ≡ length result }
 {

@@ -1,4 +1,5 @@
-// A program's line, put into a lent buffer.
+// A program's line, put into a lent buffer. What may not change: each answers the line's length beside the buffer, as the promises
+// (Lined, JudgeLinePromise, ProposeLinePromise) say it.
 ghost use Rattle.std.specs.Prelude.{◌+◌, ◌*◌, ◌≤◌, length};
 ghost use Rattle.io.specs.Counts.{IsPrefixLen};
 ghost use Rattle.lines.specs.Inner.Put.{Put};

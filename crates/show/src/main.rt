@@ -1,4 +1,5 @@
 // Reads a listing from standard input, and writes it for a person: a line a node, or why it is refused.
+// No plainer by say::answer: what it writes is no line that a buffer has room for.
 #![tactic(auto)]
 
 use std::io;

@@ -1,4 +1,5 @@
 // Reads a text from standard input and writes the listing's bytes, or the line `REFUSED number place`.
+// No plainer by say::answer: between reading and writing it looks whether the text was read whole.
 #![tactic(auto)]
 
 use std::io;

@@ -13,7 +13,7 @@ use say::LINE;
 // The longest text that the program reads, 1 MiB.
 pub const TEXT: usize = 1048576;
 
-// Zeros for a program's text: the longest that it reads, and one byte more that tells a longer one.
+// Zeros for a program's text, of a size of its own (say::room): the longest that it reads, and one byte more that tells a longer one.
 pub fn room() -> [u8; TEXT + 1]
     ensures { suc Output-as-TEXT ≡ length result }
 {
