@@ -84,7 +84,7 @@ impl BitAnd for Row {
     }
 }
 
-// The least bit of x from b on, or 64 where there is none. No `Option` here and in `search`: `min` takes a number, and so judging is quicker.
+// The least bit of x from b on, or 64 where there is none. No `Option` here and in `next`: `min` takes a number, and so judging is quicker.
 fn lowest(x: u64, b: usize) -> usize
     requires { b < 64 }
     ensures { Least (IsSet x) b 64 result }
@@ -96,8 +96,8 @@ fn lowest(x: u64, b: usize) -> usize
     b + y.trailing_zeros() as usize
 }
 
-// Whether b stands in row a of the words w. This and `search` take words that are lent, so that `Nodes` needs no N.
-fn stands(w: &[u64], a: usize, b: usize) -> bool
+// Whether b stands in row a of the words w. This and `next` take any words that are lent, so `Nodes` needs no N.
+pub fn has(w: &[u64], a: usize, b: usize) -> bool
     requires { (2 * a + 1 < length w.now) × (b < 128) }
     ensures { Tells result (Has w.now a b) }
 {
@@ -106,14 +106,14 @@ fn stands(w: &[u64], a: usize, b: usize) -> bool
 }
 
 // The least node of row a of the words w from b on and below n, or n where it has none.
-fn search(w: &[u64], a: usize, b: usize, n: usize) -> usize
+pub fn next(w: &[u64], a: usize, b: usize, n: usize) -> usize
     requires { (2 * a + 1 < length w.now) × (b ≤ n) × (n ≤ 128) }
     ensures { Least (Has w.now a) b n result }
 {
     if n <= b {
         return n;
     }
-    if stands(w, a, b) {
+    if has(w, a, b) {
         return b;
     }
     if 64 <= b {
@@ -165,7 +165,7 @@ impl<const N: usize> Rows<N> {
         requires { (2 * a + 1 < N) × (b < 128) }
         ensures { Tells result (Has self.now a b) }
     {
-        stands(&self.words, a, b)
+        has(&self.words, a, b)
     }
 
     // Puts b into row a.
@@ -328,7 +328,7 @@ impl<'a> Iterator for Nodes<'a> {
     ghost remaining = { λ s. at_most (s.n - s.place) };
 
     fn next(&mut self) -> Option<usize> {
-        let r = search(self.words, self.a, self.place, self.n);
+        let r = next(self.words, self.a, self.place, self.n);
         if r < self.n {
             self.place = r + 1;
             return Some(r);
