@@ -27,7 +27,7 @@ use std::ops::{BitAnd, BitOr};
 pub const WORDS: usize = 2 * Listing::NODES;
 
 // Rows of bits in N words. A contract sees the words alone.
-#[derive(Drop)]
+#[derive(Clone, Copy, PartialEq, Eq, Drop)]
 pub struct Rows<const N: usize> {
     words: [u64; N],
 }
@@ -38,6 +38,17 @@ impl<const N: usize> Model for Rows<N> {
     ghost Value = { List ℕ };
 
     ghost view = { λ r. r.words };
+
+    ghost inverse = { λ w. record { words = w } };
+}
+
+// The rows that these words are.
+impl<const N: usize> From<[u64; N]> for Rows<N> {
+    ghost from_gives = { λ words rows. rows ≡ words };
+
+    fn from(words: [u64; N]) -> Self {
+        Rows { words }
+    }
 }
 
 // A set of nodes: one row. How many nodes there are goes beside it as a number: five relations would keep it five times.
@@ -136,6 +147,14 @@ impl<const N: usize> Rows<N> {
         ensures long { length result ≡ N }
     {
         Rows { words: [0; N] }
+    }
+
+    // All words.
+    pub fn words(&self) -> [u64; N]
+        ensures { result ≡ self.now }
+    {
+        let Rows { words } = *self;
+        words
     }
 
     // The words of row a.
