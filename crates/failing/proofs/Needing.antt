@@ -8,24 +8,12 @@ use Rattle.listing.specs.Bytes.{count_n, nodes_of}
 use Rattle.listing.specs.Node.{Listing}
 use Rattle.order.specs.Walks.{kind_at}
 use Rattle.order.specs.Chains.{SurelyMeet, IsPair}
-use Rattle.order.specs.declared.question.Question.{Question}
-use Rattle.order.specs.declared.question.Question.TheVariants.{ScOnX86, ScOnArmv7, X86OnArmv7, Armv8OnArmv7, ScOnArmv8, X86OnArmv8}
-use Rattle.order.specs.Inner.Asking.{asked}
-use Rattle.order.specs.Need.{Asked, question, Entry, leave_unless_rmw, entry, Says, Needs, RmwInside}
+use Rattle.order.specs.Need.{question, Entry, leave_unless_rmw, entry, Says, Needs, RmwInside}
 use Rattle.order.specs.Verdict.{Fails}
 use Rattle.rows.specs.Inner.Rows.{Has, Tells, Holds}
 use Rattle.suspects.specs.Inner.Suspect.{Suspect, Exchanged}
 use Rattle.failing.specs.Inner.Failing.{AskedOf, Prepared}
 use Rattle.rows.proofs.Tells.{tells_yes, told_map}
-
--- a question can be asked
-pub asked_in : (q : Question) → Asked (asked q)
-asked_in ScOnX86 = record { least = omega arith; most = omega arith }
-asked_in ScOnArmv7 = record { least = omega arith; most = omega arith }
-asked_in X86OnArmv7 = record { least = omega arith; most = omega arith }
-asked_in Armv8OnArmv7 = record { least = omega arith; most = omega arith }
-asked_in ScOnArmv8 = record { least = omega arith; most = omega arith }
-asked_in X86OnArmv8 = record { least = omega arith; most = omega arith }
 
 -- what holds of a search's fields holds of what a contract sees of it
 pub seen : {q : ℕ} {bytes c i : List ℕ} {v : AskedOf} → record { question = q; bytes = bytes } ≡ v → Prepared q bytes c i

@@ -27,7 +27,7 @@ use std::ops::{BitAnd, BitOr};
 pub const WORDS: usize = 2 * Listing::NODES;
 
 // Rows of bits in N words. A contract sees the words alone.
-#[derive(Drop)]
+#[derive(Clone, Copy, PartialEq, Eq, Drop)]
 pub struct Rows<const N: usize> {
     words: [u64; N],
 }
@@ -38,6 +38,17 @@ impl<const N: usize> Model for Rows<N> {
     ghost Value = { List ℕ };
 
     ghost view = { λ r. r.words };
+
+    ghost inverse = { λ w. record { words = w } };
+}
+
+// The rows that these words are.
+impl<const N: usize> From<[u64; N]> for Rows<N> {
+    ghost from_gives = { λ words rows. rows ≡ words };
+
+    fn from(words: [u64; N]) -> Self {
+        Rows { words }
+    }
 }
 
 // A set of nodes: one row. How many nodes there are goes beside it as a number: five relations would keep it five times.
@@ -84,7 +95,7 @@ impl BitAnd for Row {
     }
 }
 
-// The least bit of x from b on, or 64 where there is none. No `Option` here and in `search`: `min` takes a number, and so judging is quicker.
+// The least bit of x from b on, or 64 where there is none. No `Option` here and in `next`: `min` takes a number, and so judging is quicker.
 fn lowest(x: u64, b: usize) -> usize
     requires { b < 64 }
     ensures { Least (IsSet x) b 64 result }
@@ -96,8 +107,8 @@ fn lowest(x: u64, b: usize) -> usize
     b + y.trailing_zeros() as usize
 }
 
-// Whether b stands in row a of the words w. This and `search` take words that are lent, so that `Nodes` needs no N.
-fn stands(w: &[u64], a: usize, b: usize) -> bool
+// Whether b stands in row a of the words w. This and `next` take any words that are lent, so `Nodes` needs no N.
+pub fn has(w: &[u64], a: usize, b: usize) -> bool
     requires { (2 * a + 1 < length w.now) × (b < 128) }
     ensures { Tells result (Has w.now a b) }
 {
@@ -106,14 +117,14 @@ fn stands(w: &[u64], a: usize, b: usize) -> bool
 }
 
 // The least node of row a of the words w from b on and below n, or n where it has none.
-fn search(w: &[u64], a: usize, b: usize, n: usize) -> usize
+pub fn next(w: &[u64], a: usize, b: usize, n: usize) -> usize
     requires { (2 * a + 1 < length w.now) × (b ≤ n) × (n ≤ 128) }
     ensures { Least (Has w.now a) b n result }
 {
     if n <= b {
         return n;
     }
-    if stands(w, a, b) {
+    if has(w, a, b) {
         return b;
     }
     if 64 <= b {
@@ -136,6 +147,14 @@ impl<const N: usize> Rows<N> {
         ensures long { length result ≡ N }
     {
         Rows { words: [0; N] }
+    }
+
+    // All words.
+    pub fn words(&self) -> [u64; N]
+        ensures { result ≡ self.now }
+    {
+        let Rows { words } = *self;
+        words
     }
 
     // The words of row a.
@@ -165,7 +184,7 @@ impl<const N: usize> Rows<N> {
         requires { (2 * a + 1 < N) × (b < 128) }
         ensures { Tells result (Has self.now a b) }
     {
-        stands(&self.words, a, b)
+        has(&self.words, a, b)
     }
 
     // Puts b into row a.
@@ -328,7 +347,7 @@ impl<'a> Iterator for Nodes<'a> {
     ghost remaining = { λ s. at_most (s.n - s.place) };
 
     fn next(&mut self) -> Option<usize> {
-        let r = search(self.words, self.a, self.place, self.n);
+        let r = next(self.words, self.a, self.place, self.n);
         if r < self.n {
             self.place = r + 1;
             return Some(r);

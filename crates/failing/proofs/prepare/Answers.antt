@@ -1,5 +1,5 @@
 -- `failing::prepare` meets its contract.
-use Rattle.failing.proofs.Needing.{asked_in}
+use Rattle.order.proofs.Entries.{asked_in}
 use Rattle.failing.proofs.prepare.Goals as goal
 
 pub returns : goal.returns

@@ -1,6 +1,6 @@
--- `rows::search` meets its contract.
+-- `rows::next` meets its contract.
 use Rattle.rows.proofs.NextNode.{next_low, next_over, next_above}
-use Rattle.rows.proofs.search.Goals as goal
+use Rattle.rows.proofs.next.Goals as goal
 
 pub returns-then-b-ge64 : goal.returns-then-b-ge64
 returns-then-b-ge64 c =

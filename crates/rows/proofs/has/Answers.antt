@@ -1,6 +1,6 @@
--- `rows::stands` meets its contract.
+-- `rows::has` meets its contract.
 use Rattle.rows.proofs.OneBit.{tells_has}
-use Rattle.rows.proofs.stands.Goals as goal
+use Rattle.rows.proofs.has.Goals as goal
 
 pub returns : goal.returns
 returns c = tells_has c.args.w.now c.args.a c.args.b
