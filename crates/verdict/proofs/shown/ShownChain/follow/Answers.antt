@@ -5,11 +5,11 @@ use native.Mathlib.Omega.{arith}
 use lib.ListN.{length}
 use Rattle.listing.specs.Bytes.{count_n, nodes_of}
 use Rattle.verdict.specs.Inner.Showing.{PairOf, Followed}
-use Rattle.verdict.proofs.Following.{first_low, asked, followed}
+use Rattle.verdict.proofs.Following.{first_low, second_low, asked, followed}
 use Rattle.verdict.proofs.shown.ShownChain.follow.Goals as goal
 
 pub row-ends-requires : goal.row-ends-requires
-row-ends-requires c = omega (arith, first_low _ _ _ _ _ c.self.invariant)
+row-ends-requires c = let k = c.self.invariant in omega (arith, first_low _ _ _ _ _ k, second_low _ _ _ _ _ k)
 
 pub chain-requires : goal.chain-requires
 chain-requires c =
