@@ -16,7 +16,7 @@ use say::LINE;
 use std::io;
 use std::io::Write;
 use verdict::{CHAIN_BYTES, Verdict};
-pub use words::explained;
+pub use words::{explained, explained_for};
 
 pub fn text<W: Write>(to: &mut W, words: &[u8]) -> io::Result<()>
     ensures { OnOk result (Appends (W.contents to.old) (W.contents to.new) words.now) }
