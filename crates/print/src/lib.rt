@@ -6,6 +6,9 @@ mod words;
 
 ghost use Rattle.std.specs.Prelude.{◌≤◌, ℕ, length, OnOk};
 ghost use Rattle.std.specs.Io.KnownBytes.{Appends};
+ghost use Rattle.say.specs.Lines.{refusal_words, refusal_line};
+ghost use Rattle.say.specs.Inner.Answers.{reason_line, judged_line, proposed_line};
+ghost use Rattle.print.specs.Inner.Writing.{Written};
 
 use listing::{Listing, Reason};
 pub use nodes::shown;
@@ -13,7 +16,7 @@ use say::LINE;
 use std::io;
 use std::io::Write;
 use verdict::{CHAIN_BYTES, Verdict};
-pub use words::explained;
+pub use words::{explained, explained_for};
 
 pub fn text<W: Write>(to: &mut W, words: &[u8]) -> io::Result<()>
     ensures { OnOk result (Appends (W.contents to.old) (W.contents to.new) words.now) }
@@ -30,6 +33,7 @@ pub fn next<W: Write>(to: &mut W, n: usize) -> io::Result<()> {
 fn line<W: Write, F: FnOnce(&mut [u8; LINE]) -> usize>(to: &mut W, put: F) -> io::Result<()>
     requires callable { F.IsAlwaysCallable put }
     requires within { (line : _) (n : ℕ) (after : _) → F.post put line n after → n ≤ length after.now }
+    ensures { OnOk result (Written (F.post put) (W.contents to.old) (W.contents to.new)) }
 {
     let mut line = [0u8; LINE];
     let n = put(&mut line);
@@ -37,15 +41,21 @@ fn line<W: Write, F: FnOnce(&mut [u8; LINE]) -> usize>(to: &mut W, put: F) -> io
 }
 
 // The refusal, without the line's end.
-pub fn refusal<W: Write>(to: &mut W, number: u8, place: usize) -> io::Result<()> {
+pub fn refusal<W: Write>(to: &mut W, number: u8, place: usize) -> io::Result<()>
+    ensures { OnOk result (Appends (W.contents to.old) (W.contents to.new) (refusal_words number place)) }
+{
     line(to, |line| say::refusal(line, number, place))
 }
 
-pub fn refused<W: Write>(to: &mut W, number: u8, place: usize) -> io::Result<()> {
+pub fn refused<W: Write>(to: &mut W, number: u8, place: usize) -> io::Result<()>
+    ensures { OnOk result (Appends (W.contents to.old) (W.contents to.new) (refusal_line number place)) }
+{
     line(to, |line| say::refused(line, number, place))
 }
 
-pub fn refused_for<W: Write>(to: &mut W, reason: Reason) -> io::Result<()> {
+pub fn refused_for<W: Write>(to: &mut W, reason: Reason) -> io::Result<()>
+    ensures { OnOk result (Appends (W.contents to.old) (W.contents to.new) (reason_line reason)) }
+{
     line(to, |line| say::refused_for(line, reason))
 }
 
@@ -53,7 +63,9 @@ pub fn judged<W: Write>(
     to: &mut W,
     answer: Result<Verdict, Reason>,
     chain: &[u8; CHAIN_BYTES],
-) -> io::Result<()> {
+) -> io::Result<()>
+    ensures { OnOk result (Appends (W.contents to.old) (W.contents to.new) (judged_line answer chain.now)) }
+{
     line(to, |line| say::judged(line, answer, chain))
 }
 
@@ -61,6 +73,8 @@ pub fn proposed<W: Write>(
     to: &mut W,
     answer: Result<usize, Reason>,
     map: &[u8; Listing::NODES],
-) -> io::Result<()> {
+) -> io::Result<()>
+    ensures { OnOk result (Appends (W.contents to.old) (W.contents to.new) (proposed_line answer map.now)) }
+{
     line(to, |line| say::proposed(line, answer, map))
 }

@@ -2,7 +2,7 @@
 ghost use Rattle.std.specs.Prelude.{◌<◌};
 ghost use Rattle.listing.specs.Bytes.{count_n};
 
-use crate::{explained, text};
+use crate::{explained_for, text};
 use listing::{Kind, Listing};
 use std::io;
 use std::io::Write;
@@ -60,6 +60,6 @@ fn nodes<W: Write>(to: &mut W, listing: &Listing) -> io::Result<()> {
 pub fn shown<W: Write>(to: &mut W, bytes: &[u8]) -> io::Result<()> {
     match reader::read(bytes) {
         Ok(listing) => nodes(to, &listing),
-        Err(reason) => explained(to, reason),
+        Err(reason) => explained_for(to, reason),
     }
 }
