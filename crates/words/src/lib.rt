@@ -20,7 +20,7 @@ pub enum Word {
     Close,
     Fence,
     Access(Kind),
-    Number(usize),
+    Number(u16),
     Other,
 }
 

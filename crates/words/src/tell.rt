@@ -13,7 +13,7 @@ const FARTHEST: usize = 65535;
 
 // The location that a word says, if it says one.
 #[tactic(auto, using(crate::proofs::Digits::digits))]
-fn location(w: &[u8]) -> Option<usize>
+fn location(w: &[u8]) -> Option<u16>
     ensures { result ≡ location_of w.now }
 {
     if w.is_empty() {
@@ -32,7 +32,7 @@ fn location(w: &[u8]) -> Option<usize>
             return None;
         }
     }
-    Some(n)
+    Some(n as u16)
 }
 
 // The word w is the word t. `==` says it too, but stays a call, and saves registers at each word.
