@@ -2,8 +2,7 @@
 use mathlib.Core.Path.{◌≡◌, ◌∙◌}
 use Prim.Native.Nat.{ℕ, zero, suc, ◌+◌, ◌-◌, ◌*◌, ◌/◌, ◌%◌, ◌<◌, ◌≤◌}
 use native.Mathlib.Omega.{arith}
-use borrow.Author.Tests.{eq-eqb, ne_eqb, lt-ltb}
-use Rattle.listing.specs.Node.{none}
+use borrow.Author.Tests.{ne_eqb, lt-ltb}
 use Rattle.text.specs.Inner.Pen.{exit_of, inside}
 
 -- the exits that leave room for d levels more

@@ -5,7 +5,6 @@ use mathlib.Core.List.{List, [], ◌∷◌}
 use Prim.Native.Nat.{ℕ, ◌<◌, ◌≤◌}
 use native.Mathlib.Omega.{arith}
 use lib.ListN.{drop_of_length-le}
-use Rattle.words.specs.Words.{FARTHEST}
 use Rattle.words.specs.declared.Word.{Word as Said}
 use Rattle.words.specs.declared.Word.TheVariants as said
 use Rattle.words.specs.Inner.Looking.{unread, token_of, is_end, ahead}

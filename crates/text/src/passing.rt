@@ -82,7 +82,7 @@ pub fn location(word: Word) -> usize
     ensures { result ≡ location_of (token_of word) }
 {
     match word {
-        Word::Number(location) => location,
+        Word::Number(location) => usize::from(location),
         _ => 0,
     }
 }

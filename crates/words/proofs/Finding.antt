@@ -1,13 +1,17 @@
 -- The next word of a text: blanks are passed, and the bytes up to the next blank are one word.
-use mathlib.Core.Path.{◌≡◌, refl, sym, ap, ◌∙◌, subst}
+use mathlib.Core.Path.{◌≡◌, refl, ap, ◌∙◌, subst}
 use mathlib.Core.Bool.{Bool, true, false, not, true≢false}
 use mathlib.Core.List.{List, [], ◌∷◌}
 use Prim.Native.Nat.{ℕ, zero, suc, ◌+◌, ◌-◌, ◌<◌, ◌≤◌}
 use native.Mathlib.Decide.{dec_le}
 use native.Mathlib.Omega.{arith}
 use lib.ListN.{length, take, drop, get_or, length-drop, drop_of_length-le}
-use lib.Seq.{drop-drop, get_or-drop, take-length}
-use Rattle.std.specs.List.{AllWithin, HoldsAt}
+use lib.Seq.{drop-drop, get_or-drop}
+use Rattle.std.specs.Option.{MatchOption, unwrap_or}
+use Rattle.std.specs.Iterator.{YieldsThen}
+use Rattle.std.specs.declared.ops.Range.{Range}
+use Rattle.std.proofs.iter.Yields.{nat_range_steps}
+use Rattle.std.specs.Prelude.{Option, None, Some}
 use Rattle.listing.proofs.Stores.{next}
 use Rattle.words.specs.declared.Word.{Word as Said}
 use Rattle.words.specs.declared.Word.TheVariants.{End}
@@ -15,38 +19,29 @@ use Rattle.words.specs.Words.{word_at, is_blank, begins, longer, words_from, mea
 use Rattle.words.specs.Inner.Looking.{mark, marks, unread, is_end, ahead, Ahead, Until}
 use Rattle.words.specs.Inner.Telling.{SaysWord}
 
--- ── What `position` finds ────────────────────────────────────────────────────
-pub whole_rest : (at : ℕ) (s : List ℕ) → take (length s - at) (drop at s) ≡ drop at s
-whole_rest at s = rw (← length-drop at s) (take-length (drop at s))
+-- ── What `find` finds ────────────────────────────────────────────────────────
+-- a range that gives nothing more has come to its end
+spends : (xs : List ℕ) (s u : Range ℕ) → YieldsThen nat_range_steps s xs None u → s.start ≤ s.end → u.start ≡ s.end
+spends [] s u (t, e, (same, (none, stays))) h =
+    let start = ap (λ (r : Range ℕ). r.start) e in
+    let end = ap (λ (r : Range ℕ). r.end) e in
+    omega (arith, stays, start, end, none, h)
+spends (x ∷ xs) s u (t, (j, (same, (some, is, up)), rest), none) h = spends xs j u (t, rest, none) (omega arith) ∙ same
 
-module _ (s : List ℕ) (at : ℕ) (v : Bool) (h : at ≤ length s) where
-  before : (r : ℕ) → AllWithin (λ b. is_blank b ≡ not v) (drop at s) 0 (r - at) → (k : ℕ) → at ≤ k → k < r → is_blank (get_or s k 0) ≡ not v
-  before r f k low high =
-      let up : at + (k - at) ≡ k = omega arith in
-      ap (λ (n : ℕ). is_blank (get_or s n 0)) (sym up)
-      ∙ ap is_blank (sym (get_or-drop at s (k - at) 0))
-      ∙ f (k - at) 0 (omega arith) (omega arith)
+pub spent : (xs : List ℕ) (s u : Range ℕ) {r : Option ℕ} → YieldsThen nat_range_steps s xs r u → r ≡ None → s.start ≤ s.end → u.start ≡ s.end
+spent xs s u ran none = spends xs s u (subst (λ (r : Option ℕ). YieldsThen nat_range_steps s xs r u) none ran)
 
-  pub until_some : (n : ℕ) → (n < length (drop at s)) × HoldsAt (λ b. is_blank b ≡ v) (drop at s) n × AllWithin (λ b. is_blank b ≡ not v) (drop at s) 0 n
-      → Until s at v (at + n)
-  until_some n (low, here, f) =
-      let long = length-drop at s in
-      let back : at + n - at ≡ n = omega arith in
-      record {
-        later = omega arith;
-        within = omega arith;
-        passed = before (at + n) (rw back f);
-        stops = λ _. ap is_blank (sym (get_or-drop at s n 0)) ∙ here 0;
-      }
+-- byte k is a blank, or is none, as v says
+abbrev pub BlankAt : List ℕ → Bool → ℕ → Type 0
+BlankAt s v k = is_blank (get_or s k 0) ≡ v
 
-  pub until_none : AllWithin (λ b. is_blank b ≡ not v) (drop at s) 0 (length (drop at s)) → Until s at v (length s)
-  until_none f =
-      record {
-        later = h;
-        within = omega arith;
-        passed = before (length s) (rw (← length-drop at s) f);
-        stops = λ z. absurd (omega arith);
-      }
+pub until : (s : List ℕ) (at : ℕ) (v : Bool) → at ≤ length s → {e : ℕ} (r : Option ℕ) → (r ≡ None → e ≡ length s)
+    → MatchOption r ((k : ℕ) → at ≤ k → k < length s → BlankAt s (not v) k)
+    (λ i. (at ≤ i) × (i < length s) × BlankAt s v i × ((k : ℕ) → at ≤ k → k < i → BlankAt s (not v) k))
+    → Until s at v (unwrap_or r e)
+until s at v h {e} None end none =
+    rw (end refl) (record { later = h; within = omega arith; passed = none; stops = λ z. absurd (omega arith) })
+until s at v h (Some i) end (low, high, here, before) = record { later = low; within = omega arith; passed = before; stops = λ _. here }
 
 -- ── Blanks ──────────────────────────────────────────────────────────────────
 pub past_blank : (s : List ℕ) (i : ℕ) → i < length s → is_blank (get_or s i 0) ≡ true → unread s i ≡ unread s (i + 1)
@@ -106,6 +101,16 @@ module _ (s : List ℕ) (a e : ℕ) (ends : Until s a true e) (some : a < e) whe
       (ap begins rest ∙ stopped))
       ∙ rw (rest, up)
 
+-- the first byte is one of the word's
+from_first : (s : List ℕ) (a e : ℕ) → BlankAt s false a → Until s (a + 1) true e → Until s a true e
+from_first s a e here u =
+    let more : a + 1 ≤ e = u.later in
+    record { later = omega arith; within = u.within; passed = λ k low high. go k (dec_le (a + 1) k) low high; stops = u.stops }
+  where
+    go : (k : ℕ) → Dec (a + 1 ≤ k) → a ≤ k → k < e → BlankAt s false k
+    go k (yes more) low high = u.passed k more high
+    go k (no h) low high = let same : a ≡ k = omega arith in subst (BlankAt s false) same here
+
 -- ── The next word ───────────────────────────────────────────────────────────
 -- none, where the blanks end with the text
 pub none_found : (s : List ℕ) (at r : ℕ) → Until s at false r → length s ≤ r → Ahead s at (record { word = End; start = r; end = r })
@@ -131,14 +136,14 @@ some_word w = elim w as (λ k. (k ≡ End → ⊥) → is_end k ≡ false) [
   | _ ↦ λ h. refl
 ]
 
--- THE WORD THAT BEGINS THERE
-pub one_found : (s : List ℕ) (at a e : ℕ) (w : Said) → Until s at false a → a < length s → Until s a true e
+-- THE WORD THAT BEGINS THERE: its first byte is no blank, so its end is looked for from the next on
+pub one_found : (s : List ℕ) (at a e : ℕ) (w : Said) → Until s at false a → a < length s → Until s (a + 1) true e
     → SaysWord (take (e - a) (drop a s)) w → Ahead s at (record { word = w; start = a; end = e })
 unfolding ahead
 one_found s at a e w u h ends told =
-    let some : a < e = go (dec_le e a) in
+    let some : a < e = let m : a + 1 ≤ e = ends.later in omega arith in
     record {
-      same = skipped s u ∙ found s a e ends some ∙ rw (some_word w told.some, told.token);
+      same = skipped s u ∙ found s a e (from_first s a e (u.stops h) ends) some ∙ rw (some_word w told.some, told.token);
       later = u.later;
       found = record {
         ordered = omega arith;
@@ -148,10 +153,3 @@ one_found s at a e w u h ends told =
         small = told.small;
       };
     }
-  where
-    go : Dec (e ≤ a) → a < e
-    go (no k) = omega arith
-    go (yes k) =
-        let here : e ≡ a = let m : a ≤ e = ends.later in omega arith in
-        let stops = subst (λ (n : ℕ). is_blank (get_or s n 0) ≡ true) here (ends.stops (omega arith)) in
-        absurd (true≢false (sym stops ∙ u.stops h))

@@ -32,3 +32,6 @@ module _ (w : List ℕ) (plain : meaning w ≡ cond (number w) (Number (value_fr
       go : (b : Bool) → number w ≡ b → None ≡ cond b (Some (value_from 0 w)) None → SaysWord w said.Other
       go true h q = absurd cc
       go false h q = record { token = rw (plain, h); some = λ z. absurd cc; small = λ m z. absurd cc }
+
+-- what `words::tell::meaning` stands on, where no word has one spelling
+pub ruleset telling = (says_location, says_other)

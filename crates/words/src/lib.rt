@@ -20,7 +20,7 @@ pub enum Word {
     Close,
     Fence,
     Access(Kind),
-    Number(usize),
+    Number(u16),
     Other,
 }
 
@@ -44,10 +44,11 @@ fn first(s: &[u8], at: usize, blank: bool) -> usize
     requires { at ≤ length s.now }
     ensures { Until s.now at blank result }
 {
-    match s[at..].iter().position(|b| is_blank(*b) == blank) {
-        Some(n) => at + n,
-        None => s.len(),
-    }
+    let mut places = at..s.len();
+    // where none is, `start` has come to the end; said as `s.len()`, the machine code would load the blanks' mask anew for each byte
+    places
+        .find(|i| is_blank(s[*i]) == blank)
+        .unwrap_or(places.start)
 }
 
 // The first word of the text from `at` on.
@@ -63,7 +64,7 @@ pub fn next(s: &[u8], at: usize) -> Found
             end: start,
         };
     }
-    let end = first(s, start, true);
+    let end = first(s, start + 1, true); // the byte at `start` is no blank
     Found {
         word: tell::meaning(&s[start..end]),
         start,
