@@ -17,7 +17,7 @@ use Rattle.chains.proofs.Unset.{unset_set}
 module _ (A : ℕ → Type 0) (d : List ℕ) (r : ℕ) where
   -- none is given a distance
   unchanged : (b n : ℕ) → b ≤ n → ((x : ℕ) → b ≤ x → x < n → Fate (get_or d x 0) (get_or d x 0) r (A x)) → Swept A b n d d r false
-  unchanged b n h f = record { fate = f; same = λ x ne. refl; fewer = λ z. cc; still = λ z. refl; low = h }
+  unchanged b n h f = record { fate = f; same = λ x ne. refl; fewer = λ z. cc; still = λ z. refl; low = h; few = omega arith }
 
   pub swept_none : Swept A 0 0 d d r false
   swept_none = unchanged 0 0 (omega arith) (λ x h k. absurd (omega arith))
@@ -44,6 +44,7 @@ module _ (A : ℕ → Type 0) (d : List ℕ) (r : ℕ) where
           fewer = λ z. (let u = unset_set d x (r + 1) hx e (λ z. omega arith) in omega arith);
           still = λ z. cc;
           low = omega arith;
+          few = let u = unset_set d x (r + 1) hx e (λ z. omega arith) in omega arith;
         }
 
 -- ---- node by node
@@ -70,6 +71,7 @@ swept_more A d e f r b k n i j g v =
       fewer = fewer_more g v;
       still = still_more g v;
       low = omega arith;
+      few = omega (arith, g.few, v.few);
     }
   where
     by : (x : ℕ) → b ≤ x → x < n → Dec (x < k) → Fate (get_or d x 0) (get_or f x 0) r (A x)
@@ -88,7 +90,7 @@ module _ (n : ℕ) (w s d : List ℕ) (r : ℕ) (hn : n ≤ 128) (l : Members s 
 
   -- A SWEEP OVER THE NODES AT A DISTANCE IS A ROUND
   pub round_done : (e : List ℕ) (c : Bool) → Swept (Into w s) 0 n d e r c → Swept (Hits n w d r) 0 n d e r c
-  round_done e c g = record { fate = λ x h k. by x k (g.fate x h k); same = g.same; fewer = g.fewer; still = g.still; low = g.low }
+  round_done e c g = record { fate = λ x h k. by x k (g.fate x h k); same = g.same; fewer = g.fewer; still = g.still; low = g.low; few = g.few }
     where
       by : (x : ℕ) → x < n → Fate (get_or d x 0) (get_or e x 0) r (Into w s x) → Fate (get_or d x 0) (get_or e x 0) r (Hits n w d r x)
       by x k (had ne q) = had ne q

@@ -33,11 +33,13 @@ pub struct Rows<const N: usize> {
 }
 
 impl<const N: usize> Model for Rows<N> {
-    ghost use Rattle.std.specs.Prelude.{List, ℕ};
+    ghost use Rattle.std.specs.Prelude.{◌≡◌, List, ℕ, length};
 
     ghost Value = { List ℕ };
 
     ghost view = { λ r. r.words };
+
+    ghost invariant = { λ r. length r.words ≡ N };
 
     ghost inverse = { λ w. record { words = w } };
 }
@@ -149,7 +151,7 @@ impl<const N: usize> Rows<N> {
         Rows { words: [0; N] }
     }
 
-    // All words.
+    // All words: an array, whose type tells a caller how many there are, as a contract on rows does not.
     pub fn words(&self) -> [u64; N]
         ensures { result ≡ self.now }
     {

@@ -46,3 +46,5 @@ pub record Swept (A : ℕ → Type 0) (b n : ℕ) (d e : List ℕ) (r : ℕ) (fo
   pub fewer : found ≡ true → unset e < unset d
   pub still : found ≡ false → e ≡ d
   pub low : b ≤ n
+  -- no more are given theirs than are looked at
+  pub few : unset d + b ≤ unset e + n

@@ -7,3 +7,6 @@ pub returns : goal.returns
 returns g c =
     let l = c.loop-i.invariant in
     rw (← c.self.view_is) (common _ _ _ (λ j h. l.done j (omega arith)) (λ j h. l.ahead j (omega arith)))
+
+pub invariant_of-self : goal.invariant_of-self
+invariant_of-self g c = omega arith
