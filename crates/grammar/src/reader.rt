@@ -123,6 +123,7 @@ impl<'a> Reader<'a> {
 
     // The item whose first word, the one looked at last, is this.
     #[cycle(block_item)]
+    #[tactic(auto, using(crate::proofs::Items::items))]
     fn item(&mut self, word: Word, depth: usize) -> Result<(), Misplaced>
         requires { ItemAhead self.old.text word self.old }
         ensures { ItemRead self.old.text word depth self.old self.new result }

@@ -1,14 +1,14 @@
 -- The block reader and the item reader meet their contracts: each way out is a law of the grammar. Unread bytes with depth left fall.
-use mathlib.Core.Path.{◌≡◌, refl, ap, ◌∙◌}
-use Prim.Native.Nat.{ℕ, ◌+◌}
+use mathlib.Core.Path.{refl, ap}
+use Prim.Native.Nat.{ℕ}
 use native.Mathlib.Omega.{arith}
 use lib.ListN.{length}
 use Rattle.std.specs.Prelude.{Ok, Err}
+use Rattle.std.proofs.Common.{rules}
 use Rattle.std.proofs.lemmas.Result.{err_from_is_err_and}
-use Rattle.words.specs.declared.Word.TheVariants as said
 use Rattle.grammar.specs.Inner.Reader.{IsNumber, BlockGoes, ItemRead}
-use Rattle.grammar.proofs.Kept.{looked, met, item_read, block_read}
-use Rattle.grammar.proofs.Items.{room, item_other, no_deeper_loop, no_deeper_either, item_fence, item_access, item_loop, first_bad, item_either}
+use Rattle.grammar.proofs.Kept.{looked, met, item_read}
+use Rattle.grammar.proofs.Items.{item_other, item_fence, item_access, item_loop, first_bad, item_either}
 use Rattle.grammar.proofs.Blocks.{block_bad, block_opens, item_ahead, item_bad, item_on, block_goes, block_empty, block_closes}
 use Rattle.grammar.proofs.reader.Reader.+block_item.Goals as goal
 use Rattle.grammar.proofs.reader.Reader.+block_item.Goals.{block-After-look-word-in-loop-self}
@@ -76,46 +76,9 @@ block-loop-self-preserved t c = (
 )
 
 -- ── The item reader ───────────────────────────────────────────────────────
-pub item-returns-in_err-inside-in-Loop : goal.item-returns-in_err-inside-in-Loop
-item-returns-in_err-inside-in-Loop t c =
-    let p = err_from_is_err_and c.from_residual.result c.from_residual.ensures.1 in
-    rw p.1 (no_deeper_loop _ _ _ _ c.requires refl c.in-Loop.is c.in_err-inside-in-Loop.ensures)
-
-pub item-returns-in_err-inside-in-Either : goal.item-returns-in_err-inside-in-Either
-item-returns-in_err-inside-in-Either t c =
-    let p = err_from_is_err_and c.from_residual-in_err-inside-in-Either.result c.from_residual-in_err-inside-in-Either.ensures.1 in
-    rw p.1 (no_deeper_either _ _ _ _ c.requires refl c.in-Either.is c.in_err-inside-in-Either.ensures)
-
-pub item-block-requires : goal.item-block-requires
-item-block-requires t c =
-    let past = room _ _ c.args.depth _ c.requires said.Loop c.in-Loop.is refl in
-    let kept = ap length c.pass-in-Loop.ensures.text in
-    let left : c.args.depth ≡ c.in_ok-inside-in-Loop.inside + 1 = c.in_ok-inside-in-Loop.ensures in
-    (omega (arith, c.requires.found.within, c.decreases), tt)
-
-pub item-block-requires-in-Either : goal.item-block-requires-in-Either
-item-block-requires-in-Either t c =
-    let past = room _ _ c.args.depth _ c.requires said.Either c.in-Either.is refl in
-    let kept = ap length c.pass-in-Either.ensures.text in
-    let left : c.args.depth ≡ c.in_ok-inside-in-Either.inside + 1 = c.in_ok-inside-in-Either.ensures in
-    (omega (arith, c.requires.found.within, c.decreases), tt)
-
 pub item-returns-in_err-block-in-Either : goal.item-returns-in_err-block-in-Either
 item-returns-in_err-block-in-Either t c =
-    let p = err_from_is_err_and c.from_residual-in_err-block-in-Either.result c.from_residual-in_err-block-in-Either.ensures.1 in
-    let pass = c.pass-in-Either.ensures in
-    let inner = c.in_ok-inside-in-Either.inside in
-    let half = c.block-in-Either.new.self in
-    let read = block_read c.args.self.now.text c.pass-in-Either.new.self half pass.text (Err _) inner c.in_err-block-in-Either.ensures in
-    rw p.1 (first_bad _ _ _ _ c.requires _ _ refl pass _ c.in_ok-inside-in-Either.ensures c.in-Either.is half read)
-
-pub item-block-requires-in-Either-2 : goal.item-block-requires-in-Either-2
-item-block-requires-in-Either-2 t c =
-    let past = room _ _ c.args.depth _ c.requires said.Either c.in-Either.is refl in
-    let (b, kept, size, far, within, span) = c.in_ok-block-in-Either.ensures in
-    let same = ap length (kept ∙ c.pass-in-Either.ensures.text) in
-    let left : c.args.depth ≡ c.in_ok-inside-in-Either.inside + 1 = c.in_ok-inside-in-Either.ensures in
-    (omega (arith, c.requires.found.within, c.pass-in-Either.ensures.end, c.decreases), tt)
+    first_bad _ _ _ _ c.requires _ _ refl c.pass-in-Either.ensures _ (search rules) (search rules) _ _ _ (search rules) (search rules) c.block-in-Either.ensures
 
 pub item-returns-in-Access : goal.item-returns-in-Access
 item-returns-in-Access t c =
@@ -128,19 +91,12 @@ item-returns-in-Fence t c = item_fence _ _ _ _ c.requires _ _ refl c.pass-in-Fen
 
 pub item-returns-in_ok-inside-in-Loop : goal.item-returns-in_ok-inside-in-Loop
 item-returns-in_ok-inside-in-Loop t c =
-    let pass = c.pass-in-Loop.ensures in
-    let inner = c.in_ok-inside-in-Loop.inside in
-    item_loop _ _ _ _ c.requires _ _ refl pass _ c.in_ok-inside-in-Loop.ensures c.in-Loop.is refl _ _
-    (block_read c.args.self.now.text c.pass-in-Loop.new.self c.block.new.self pass.text _ inner c.block.ensures)
+    item_loop _ _ _ _ c.requires _ _ refl c.pass-in-Loop.ensures _ c.in_ok-inside-in-Loop.ensures c.in-Loop.is refl _ _ c.block.ensures
 
 pub item-returns-in_ok-block-in-Either : goal.item-returns-in_ok-block-in-Either
 item-returns-in_ok-block-in-Either t c =
-    let pass = c.pass-in-Either.ensures in
-    let s = c.args.self.now.text in
-    let inner = c.in_ok-inside-in-Either.inside in
-    let first = block_read s c.pass-in-Either.new.self c.block-in-Either.new.self pass.text (Ok tt) inner c.in_ok-block-in-Either.ensures in
-    item_either _ _ _ _ c.requires _ _ refl pass _ c.in_ok-inside-in-Either.ensures c.in-Either.is c.block-in-Either.new.self refl first _ _
-    (block_read s c.block-in-Either.new.self c.block-in-Either-2.new.self first.1 _ inner c.block-in-Either-2.ensures)
+    item_either _ _ _ _ c.requires _ _ refl c.pass-in-Either.ensures _ c.in_ok-inside-in-Either.ensures c.in-Either.is
+    c.block-in-Either.new.self refl c.in_ok-block-in-Either.ensures _ _ c.block-in-Either-2.ensures
 
 pub item-returns-in_default : goal.item-returns-in_default
 item-returns-in_default t c =

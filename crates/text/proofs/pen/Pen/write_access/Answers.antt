@@ -1,5 +1,6 @@
 -- An access is written: the next word says its location.
 use mathlib.Core.Path.{refl}
+use Rattle.text.specs.Inner.Records.{alone}
 use Rattle.text.specs.Inner.Pen.{nodes_at, after}
 use Rattle.text.proofs.Looks.{forked, look_location, look_located}
 use Rattle.text.proofs.Wrote.{nodes_written}
@@ -9,4 +10,5 @@ pub returns : goal.returns
 unfolding nodes_at after
 returns c =
     let look = forked c.fork-on.ensures c.look.ensures in
-    nodes_written refl (rw (look_location look, look_located look, c.location-place.ensures, c.follow-leads.ensures, look.text)) c.put_single.ensures
+    nodes_written refl {L = alone c.args.self.now.parts _ c.location-place.result c.follow-leads.result}
+    (rw (look_location look, look_located look, c.location-place.ensures, c.follow-leads.ensures, look.text)) c.put_single.ensures

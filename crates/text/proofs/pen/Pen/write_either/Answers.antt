@@ -7,4 +7,6 @@ pub returns : goal.returns
 returns c =
     let first = forked_past c.fork-on.ensures c.past_block.ensures in
     let second = past_on first.text c.past_block-2.ensures in
-    either_entered _ first.same second.same (rw c.within-self.ensures (rw c.passed-meet.ensures)) (rw c.passed-other.ensures at c.put_plain.ensures)
+    let other = rw (← c.passed-other.ensures) at first.same in
+    let meet = rw (← c.passed-other.ensures, ← c.passed-meet.ensures) at second.same in
+    either_entered c.args.self.now other meet c.within-self.ensures c.put_plain.ensures
