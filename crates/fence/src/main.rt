@@ -13,7 +13,7 @@ use std::io::Write;
 fn map_length(bytes: &[u8]) -> usize
     ensures { result ≤ NODES }
 {
-    reader::read(bytes).map_or(0, |listing| listing.nodes())
+    reader::listing(bytes).map_or(0, |listing| listing.nodes())
 }
 
 // The patched listing's bytes, or the refusal line.

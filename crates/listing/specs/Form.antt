@@ -8,6 +8,7 @@ use Rattle.listing.specs.Rules.{Rule, rule, Refusal, passed, refused, first_of}
 use Rattle.listing.specs.Answer.{Answer, done, refusal}
 use Rattle.listing.specs.Reason.{refused_for}
 use Rattle.listing.specs.declared.reason.Reason.{Reason}
+use Rattle.listing.specs.declared.records.Counts.{Counts}
 
 -- 3: "mark wrong"
 unfoldable pub wrong_mark : List ℕ → Bool
@@ -73,9 +74,14 @@ abbrev pub Formed : List ℕ → Type 0
 Formed s = first_of (form_rules s) ≡ passed
 
 -- the rules' number and values for each case of the reader's answer
-abbrev pub read_says : Result (List ℕ) Reason → Answer
-read_says (Ok s) = done (count_n s) (count_f s) 0
+abbrev pub read_says : Result Counts Reason → Answer
+read_says (Ok c) = done c.nodes c.routines 0
 read_says (Err r) = refused_for r
+
+-- the same where what is answered is the listing
+abbrev pub listing_says : Result (List ℕ) Reason → Answer
+listing_says (Ok s) = done (count_n s) (count_f s) 0
+listing_says (Err r) = refused_for r
 
 -- what reading answers: "N and F", or the refusal
 abbrev pub read_by : Refusal → ℕ → ℕ → Answer

@@ -16,7 +16,7 @@ ghost use Rattle.listing.specs.Inner.Coded.{number_of};
 
 pub use kind::{Kind, Unlisted};
 pub use reason::Reason;
-pub use records::Listing;
+pub use records::{Counts, Listing};
 pub use rules::form;
 
 // The successor of a node that has none: the format's byte, which no node has for a number.

@@ -8,6 +8,13 @@ pub struct Listing<'a> {
     bytes: &'a [u8],
 }
 
+// How many nodes and routines a listing has: what reading answers of it, once the bytes are gone too.
+#[derive(Clone, Copy)]
+pub struct Counts {
+    pub nodes: usize,
+    pub routines: usize,
+}
+
 impl<'a> Model for Listing<'a> {
     ghost use Rattle.std.specs.Prelude.{List, ℕ};
     ghost use Rattle.listing.specs.Inner.Whole.{Whole};
@@ -66,6 +73,16 @@ impl<'a> Listing<'a> {
         ensures { result ≡ count_f self.now }
     {
         self.bytes[5]
+    }
+
+    // Both counts, for who lets the bytes go.
+    pub fn counts(&self) -> Counts
+        ensures { (result.nodes ≡ count_n self.now) × (result.routines ≡ count_f self.now) }
+    {
+        Counts {
+            nodes: self.nodes(),
+            routines: usize::from(self.routines()),
+        }
     }
 
     // Byte k of node i's record.

@@ -1,9 +1,10 @@
 // The refusals 2 to 12: a function for each condition, and the first that applies.
-ghost use Rattle.std.specs.Prelude.{◌≡◌, ◌<◌, ◌≤◌, length, IfOk};
+ghost use Rattle.std.specs.Prelude.{◌≡◌, ◌<◌, ◌≤◌, length, OnOk};
 ghost use Rattle.listing.specs.Limits.{HEADING};
 ghost use Rattle.listing.specs.Bytes.{count_n};
 ghost use Rattle.listing.specs.Rules.{first_of};
 ghost use Rattle.listing.specs.Inner.Found.{found};
+ghost use Rattle.listing.specs.Inner.Whole.{Whole};
 ghost use Rattle.listing.specs.Form.{
   wrong_mark,
   heading_rules,
@@ -18,7 +19,7 @@ ghost use Rattle.listing.specs.Form.{
   form_of,
 };
 
-use crate::{Listing, NONE, Reason, is_version, kinds_of, version};
+use crate::{Counts, Listing, NONE, Reason, is_version, kinds_of, version};
 
 // Rule 3.
 #[tactic(auto, unfolding(crate::specs::Form::wrong_mark))]
@@ -141,15 +142,15 @@ fn record(listing: &Listing, i: usize) -> Result<(), Reason>
     Ok(())
 }
 
-// The listing whose form is right, or the first of the refusals 2 to 12 that applies.
-pub fn form(bytes: &[u8]) -> Result<Listing<'_>, Reason>
+// The counts of a listing whose form is right, which has all its records, or the first of the refusals 2 to 12 that applies.
+pub fn form(bytes: &[u8]) -> Result<Counts, Reason>
     ensures says { read_says result ≡ form_of bytes.now }
-    ensures same { IfOk result (λ l. l ≡ bytes.now) }
+    ensures whole { OnOk result (Whole bytes.now) }
 {
     heading(bytes)?;
     let listing = Listing::new(bytes);
     for i in 0..listing.nodes() {
         record(&listing, i)?;
     }
-    Ok(listing)
+    Ok(listing.counts())
 }

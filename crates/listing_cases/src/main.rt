@@ -15,12 +15,7 @@ const TOO_LONG: usize = Listing::LONGEST + Listing::RECORD;
 // What the reader answers to a case.
 fn case<W: Write>(to: &mut W, name: &str, bytes: &[u8]) -> io::Result<()> {
     match reader::read(bytes) {
-        Ok(listing) => writeln!(
-            to,
-            "{name}: GOOD {} {}",
-            listing.nodes(),
-            listing.routines()
-        ),
+        Ok(counts) => writeln!(to, "{name}: GOOD {} {}", counts.nodes, counts.routines),
         Err(reason) => writeln!(to, "{name}: REFUSED {} {}", reason.number(), reason.place()),
     }
 }

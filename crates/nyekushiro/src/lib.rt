@@ -11,7 +11,7 @@ ghost use Rattle.patch.specs.Patching.{JudgePatchPromise, number_says, ProposePr
 ghost use Rattle.text.specs.Typing.{Typed};
 ghost use Rattle.nyekushiro.specs.Exported.{said};
 
-use listing::{Listing, Reason};
+use listing::{Counts, Reason};
 use verdict::Verdict;
 
 // kind 0: done, or ROBUST; 1: OPEN; 2: REFUSED, with first the number and second the place.
@@ -61,12 +61,12 @@ impl From<Reason> for Answer {
 }
 
 // What reading answers.
-impl From<Result<Listing<'_>, Reason>> for Answer {
+impl From<Result<Counts, Reason>> for Answer {
     ghost from_gives = { λ read answer. said answer ≡ read_says read };
 
-    fn from(read: Result<Listing<'_>, Reason>) -> Answer {
+    fn from(read: Result<Counts, Reason>) -> Answer {
         match read {
-            Ok(listing) => done(listing.nodes(), usize::from(listing.routines()), 0),
+            Ok(counts) => done(counts.nodes, counts.routines, 0),
             Err(reason) => Answer::from(reason),
         }
     }

@@ -1,11 +1,12 @@
 // Patches: the rules of a map, judging with a map, and writing the patched listing.
 #![tactic(auto)]
 
-ghost use Rattle.std.specs.Prelude.{◌≡◌, ◌++◌, ◌≤◌, length, nat_lt, IfOk};
+ghost use Rattle.std.specs.Prelude.{◌≡◌, ◌++◌, ◌≤◌, length, nat_lt, OnOk};
 ghost use Rattle.std.specs.List.{position};
 ghost use Rattle.listing.specs.Bytes.{nodes_of};
 ghost use Rattle.listing.specs.Rules.{first_of};
 ghost use Rattle.listing.specs.Inner.Found.{found};
+ghost use Rattle.listing.specs.Inner.Whole.{Whole};
 ghost use Rattle.order.specs.Inner.Asking.{asked};
 ghost use Rattle.order.specs.Patched.{patched};
 ghost use Rattle.verdict.specs.Judging.{buffer_rules, CHAIN, decided_says, judge_says, Told};
@@ -41,14 +42,13 @@ fn check_map(listing: &Listing, map: &[u8]) -> Result<(), Reason>
     Ok(())
 }
 
-// The listing that the bytes are. Rules 2 to 12 and 18 are its own, and then 13 to 15 its map's.
-pub fn check<'a>(bytes: &'a [u8], map: &[u8]) -> Result<Listing<'a>, Reason>
+// Rules 2 to 12 and 18, the listing's, and then 13 to 15, its map's. What passes has all its records.
+pub fn check(bytes: &[u8], map: &[u8]) -> Result<(), Reason>
     ensures checked { found result ≡ first_of (patch_rules bytes.now map.now) }
-    ensures same { IfOk result (λ l. l ≡ bytes.now) }
+    ensures whole { OnOk result (Whole bytes.now) }
 {
-    let listing = reader::read(bytes)?;
-    check_map(&listing, map)?;
-    Ok(listing)
+    let listing = reader::listing(bytes)?;
+    check_map(&listing, map)
 }
 
 // The verdict with a map that fits its listing: that of the patched listing.
@@ -72,11 +72,11 @@ pub fn judge_patch(
     ensures { JudgePatchPromise question bytes.now map.now chain.old chain.new (judge_says result) }
 {
     let question = Question::try_from(question)?;
-    let listing = check(bytes, map)?;
+    check(bytes, map)?;
     if chain.len() < verdict::CHAIN_BYTES {
         return Err(Reason::Buffer);
     }
-    Ok(judge_checked(question, &listing, map, chain))
+    Ok(judge_checked(question, &Listing::new(bytes), map, chain))
 }
 
 // Writing of a listing and a map that passed: rule 16, and then the bytes.
@@ -98,6 +98,6 @@ fn write_checked(listing: &Listing, map: &[u8], out: &mut [u8]) -> Result<usize,
 pub fn write(bytes: &[u8], map: &[u8], out: &mut [u8]) -> Result<usize, Reason>
     ensures { WritePromise bytes.now map.now out.old out.new (write_says result) }
 {
-    let listing = check(bytes, map)?;
-    write_checked(&listing, map, out)
+    check(bytes, map)?;
+    write_checked(&Listing::new(bytes), map, out)
 }

@@ -7,12 +7,13 @@ mod words;
 ghost use Rattle.std.specs.Prelude.{◌≤◌, ℕ, length, OnOk};
 ghost use Rattle.std.specs.Io.KnownBytes.{Appends};
 ghost use Rattle.say.specs.Lines.{refusal_words, refusal_line};
-ghost use Rattle.say.specs.Inner.Answers.{reason_line, judged_line, proposed_line};
+ghost use Rattle.say.specs.Inner.Answers.{reason_line, judged_by, proposed_by};
 ghost use Rattle.print.specs.Inner.Writing.{Written};
 
 use listing::{Listing, Reason};
 pub use nodes::shown;
 use say::LINE;
+pub use say::{Refused, Refuses};
 use std::io;
 use std::io::Write;
 use verdict::{CHAIN_BYTES, Verdict};
@@ -59,22 +60,23 @@ pub fn refused_for<W: Write>(to: &mut W, reason: Reason) -> io::Result<()>
     line(to, |line| say::refused_for(line, reason))
 }
 
-pub fn judged<W: Write>(
+// A refusal is a reason, or a number and a place.
+pub fn judged<W: Write, R: Refuses>(
     to: &mut W,
-    answer: Result<Verdict, Reason>,
+    answer: Result<Verdict, R>,
     chain: &[u8; CHAIN_BYTES],
 ) -> io::Result<()>
-    ensures { OnOk result (Appends (W.contents to.old) (W.contents to.new) (judged_line answer chain.now)) }
+    ensures { OnOk result (Appends (W.contents to.old) (W.contents to.new) (judged_by R.told answer chain.now)) }
 {
     line(to, |line| say::judged(line, answer, chain))
 }
 
-pub fn proposed<W: Write>(
+pub fn proposed<W: Write, R: Refuses>(
     to: &mut W,
-    answer: Result<usize, Reason>,
+    answer: Result<usize, R>,
     map: &[u8; Listing::NODES],
 ) -> io::Result<()>
-    ensures { OnOk result (Appends (W.contents to.old) (W.contents to.new) (proposed_line answer map.now)) }
+    ensures { OnOk result (Appends (W.contents to.old) (W.contents to.new) (proposed_by R.told answer map.now)) }
 {
     line(to, |line| say::proposed(line, answer, map))
 }

@@ -58,7 +58,7 @@ fn nodes<W: Write>(to: &mut W, listing: &Listing) -> io::Result<()> {
 
 // A line a node, or why the listing is refused.
 pub fn shown<W: Write>(to: &mut W, bytes: &[u8]) -> io::Result<()> {
-    match reader::read(bytes) {
+    match reader::listing(bytes) {
         Ok(listing) => nodes(to, &listing),
         Err(reason) => explained_for(to, reason),
     }

@@ -80,6 +80,6 @@ pub fn propose(question: u64, bytes: &[u8], map: &mut [u8]) -> Result<usize, Rea
     ensures { ProposePromise question bytes.now map.old map.new (propose_says result) }
 {
     let question = Question::try_from(question)?;
-    let listing = reader::read(bytes)?;
+    let listing = reader::listing(bytes)?;
     propose_for(question, &listing, map)
 }

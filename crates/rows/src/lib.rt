@@ -139,6 +139,15 @@ pub fn next(w: &[u64], a: usize, b: usize, n: usize) -> usize
     (lowest(w[2 * a + 1], 0) + 64).min(n)
 }
 
+// Takes b out of row a of the words w.
+pub fn take_out(w: &mut [u64], a: usize, b: usize)
+    requires { (2 * a + 1 < length w.old) × (b < 128) }
+    ensures { Removed w.old w.new a b }
+{
+    let i = 2 * a + b / 64;
+    w[i] &= !(1u64 << (b % 64));
+}
+
 // How far back a row that is the same is looked for.
 const NEAR: usize = 12;
 
@@ -203,8 +212,7 @@ impl<const N: usize> Rows<N> {
         requires { (2 * a + 1 < N) × (b < 128) }
         ensures { Removed self.old self.new a b }
     {
-        let i = 2 * a + b / 64;
-        self.words[i] &= !(1u64 << (b % 64));
+        take_out(&mut self.words, a, b);
     }
 
     // Puts row k into row a.

@@ -3,6 +3,7 @@
 
 mod line;
 mod program;
+mod refuses;
 
 ghost use Rattle.std.specs.Prelude.{◌≡◌, length};
 ghost use Rattle.io.specs.Counts.{IsPrefixLen};
@@ -12,6 +13,7 @@ ghost use Rattle.say.specs.Lines.{INPUT as Lines-as-INPUT};
 pub use line::{judged, proposed, refusal, refused, refused_for, told, unasked};
 use listing::Listing;
 pub use program::answer;
+pub use refuses::{Refused, Refuses};
 use verdict::CHAIN_BYTES;
 
 // A question, the longest listing, and one byte more: an input that is cut there has the same line (proofs/Cut.antt).

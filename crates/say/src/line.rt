@@ -5,9 +5,9 @@ ghost use Rattle.io.specs.Counts.{IsPrefixLen};
 ghost use Rattle.lines.specs.Inner.Put.{Put};
 ghost use Rattle.lines.specs.Inner.Growing.{Grows};
 ghost use Rattle.say.specs.Lines.{refusal_words, refusal_line, open_line, proposal_line, Lined};
-ghost use Rattle.say.specs.Inner.Answers.{pairs_of, places_of, reason_line, told_line, judged_line, proposed_line};
+ghost use Rattle.say.specs.Inner.Answers.{pairs_of, places_of, refused_line, told_by, judged_by, proposed_by};
 
-use crate::LINE;
+use crate::{LINE, Refused, Refuses};
 use lines::Line;
 use listing::{Listing, Reason};
 use verdict::{CHAIN_BYTES, Verdict};
@@ -69,12 +69,13 @@ pub fn refused(line: &mut [u8; LINE], number: u8, place: usize) -> usize
     line.end
 }
 
-// The refusal for a reason.
-pub fn refused_for(line: &mut [u8; LINE], reason: Reason) -> usize
-    ensures lined { Lined (reason_line reason) line.old line.new result }
+// The refusal for a reason, or for what else has a number and a place.
+pub fn refused_for<R: Refuses>(line: &mut [u8; LINE], refusal: R) -> usize
+    ensures lined { Lined (refused_line (R.told refusal)) line.old line.new result }
     ensures prefix_len { IsPrefixLen result line.new }
 {
-    refused(line, reason.number(), reason.place())
+    let Refused { number, place } = refusal.refused();
+    refused(line, number, place)
 }
 
 // Empty input asks no question.
@@ -106,14 +107,14 @@ fn open(
 }
 
 // The line of what judging answers, with the words for ROBUST.
-pub fn told(
+pub fn told<R: Refuses>(
     line: &mut [u8; LINE],
     robust: &[u8],
-    answer: Result<Verdict, Reason>,
+    answer: Result<Verdict, R>,
     chain: &[u8; CHAIN_BYTES],
 ) -> usize
     requires { length robust.now ≤ 1000 }
-    ensures lined { Lined (told_line robust.now answer chain.now) line.old line.new result }
+    ensures lined { Lined (told_by R.told robust.now answer chain.now) line.old line.new result }
     ensures prefix_len { IsPrefixLen result line.new }
 {
     match answer {
@@ -129,17 +130,17 @@ pub fn told(
                 count,
             },
         ) => open(line, first, second, count, chain),
-        Err(reason) => refused_for(line, reason),
+        Err(refusal) => refused_for(line, refusal),
     }
 }
 
 // The judge's line.
-pub fn judged(
+pub fn judged<R: Refuses>(
     line: &mut [u8; LINE],
-    answer: Result<Verdict, Reason>,
+    answer: Result<Verdict, R>,
     chain: &[u8; CHAIN_BYTES],
 ) -> usize
-    ensures lined { Lined (judged_line answer chain.now) line.old line.new result }
+    ensures lined { Lined (judged_by R.told answer chain.now) line.old line.new result }
     ensures prefix_len { IsPrefixLen result line.new }
 {
     told(line, b"ROBUST\n", answer, chain)
@@ -158,16 +159,16 @@ fn offered(line: &mut [u8; LINE], count: usize, map: &[u8; Listing::NODES]) -> u
 }
 
 // The proposer's line: how many places its map has, and each.
-pub fn proposed(
+pub fn proposed<R: Refuses>(
     line: &mut [u8; LINE],
-    answer: Result<usize, Reason>,
+    answer: Result<usize, R>,
     map: &[u8; Listing::NODES],
 ) -> usize
-    ensures lined { Lined (proposed_line answer map.now) line.old line.new result }
+    ensures lined { Lined (proposed_by R.told answer map.now) line.old line.new result }
     ensures prefix_len { IsPrefixLen result line.new }
 {
     match answer {
         Ok(places) => offered(line, places, map),
-        Err(reason) => refused_for(line, reason),
+        Err(refusal) => refused_for(line, refusal),
     }
 }

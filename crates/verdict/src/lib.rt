@@ -64,7 +64,7 @@ pub fn judge(question: u64, bytes: &[u8], chain: &mut [u8]) -> Result<Verdict, R
     ensures { JudgePromise question bytes.now chain.old chain.new (judge_says result) }
 {
     let question = Question::try_from(question)?;
-    let listing = reader::read(bytes)?;
+    let listing = reader::listing(bytes)?;
     if chain.len() < CHAIN_BYTES {
         return Err(Reason::Buffer);
     }

@@ -12,24 +12,24 @@ returns-in_err-question c =
     let wrong = c.in_err-question.ensures in
     rw (p.1, p.2, wrong.0) (wrongly_asked _ _ _ _ _ (question_wrong _ wrong.1) refl)
 
-pub returns-in_err-listing : goal.returns-in_err-listing
-returns-in_err-listing c =
-    let p = err_from_is_err_and c.from_residual-in_err-listing.result c.from_residual-in_err-listing.ensures.1 in
+pub returns-in_err-check : goal.returns-in_err-check
+returns-in_err-check c =
+    let p = err_from_is_err_and c.from_residual-in_err-check.result c.from_residual-in_err-check.ensures.1 in
     let right = question_right _ _ c.in_ok-question.ensures in
-    rw (p.1, p.2) (not_patched _ _ _ _ _ right _ _ (sym c.in_err-listing.ensures.checked) refl)
+    rw (p.1, p.2) (not_patched _ _ _ _ _ right _ _ (sym c.in_err-check.ensures.checked) refl)
 
 pub returns-then-chain-lt-CHAIN_BYTES : goal.returns-then-chain-lt-CHAIN_BYTES
 returns-then-chain-lt-CHAIN_BYTES c =
     let right = question_right _ _ c.in_ok-question.ensures in
-    chain_too_short _ _ _ _ _ right (sym c.in_ok-listing.ensures.checked) c.if-chain-lt-CHAIN_BYTES.true refl
+    chain_too_short _ _ _ _ _ right (sym c.in_ok-check.ensures.checked) c.if-chain-lt-CHAIN_BYTES.true refl
 
 pub judge_checked-requires : goal.judge_checked-requires
 judge_checked-requires c =
-    let fits = passes_fits _ _ (sym c.in_ok-listing.ensures.checked) in
-    (rw c.in_ok-listing.ensures.same fits, c.if-chain-lt-CHAIN_BYTES.false)
+    let fits = passes_fits _ _ (sym c.in_ok-check.ensures.checked) in
+    (rw c.new.ensures fits, c.if-chain-lt-CHAIN_BYTES.false)
 
 pub returns : goal.returns
 returns c =
     let right = question_right _ _ c.in_ok-question.ensures in
-    let told = rw (c.in_ok-question.ensures, c.in_ok-listing.ensures.same) at c.judge_checked.ensures in
-    told_with_map _ _ _ _ _ right _ (sym c.in_ok-listing.ensures.checked) c.if-chain-lt-CHAIN_BYTES.false told
+    let told = rw (c.in_ok-question.ensures, c.new.ensures) at c.judge_checked.ensures in
+    told_with_map _ _ _ _ _ right _ (sym c.in_ok-check.ensures.checked) c.if-chain-lt-CHAIN_BYTES.false told

@@ -31,4 +31,4 @@ loop-i-preserved c =
 pub returns-clause-says : goal.returns-clause-says
 returns-clause-says c =
     let size = c.nodes-i-end.ensures.count.0 ∙ ap count_n c.new-listing.ensures in
-    rw c.new-listing.ensures (all_read _ _ _ c.loop-i.invariant.1 (rw size at c.loop-i-test.false))
+    rw (c.counts.ensures.0, c.counts.ensures.1, c.new-listing.ensures) (all_read _ _ _ c.loop-i.invariant.1 (rw size at c.loop-i-test.false))

@@ -1,7 +1,0 @@
--- `Rows::take_out` meets its contract.
-use native.Mathlib.Omega.{arith}
-use Rattle.rows.proofs.OneBit.{removed}
-use Rattle.rows.proofs.Rows.take_out.Goals as goal
-
-pub returns : goal.returns
-returns g c = rw (← c.self.view_is) (removed _ _ _ (omega arith) c.requires.1)
