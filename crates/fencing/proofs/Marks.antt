@@ -1,13 +1,12 @@
 -- The marks of a map, one by one.
 use mathlib.Core.Path.{◌≡◌, refl, sym, ap, ◌∙◌}
-use mathlib.Core.Bool.{Bool, true, false, cond}
+use mathlib.Core.Bool.{Bool, true, false}
 use mathlib.Core.List.{List, ◌∷◌}
 use Prim.Native.Nat.{ℕ, ◌+◌, ◌≤◌, ◌<◌}
 use native.Mathlib.Omega.{arith}
 use native.Mathlib.Numerals.{add-one}
+use mir.Val.{bool_byte}
 use lib.ListN.{length, get_or, drop, length-map, drop_of_length-le, get_or-map}
-use Rattle.std.specs.List.{count_by}
-use Rattle.std.proofs.lemmas.List.Recursion.{is_count_by}
 use Rattle.listing.specs.Bytes.{nodes_of}
 use Rattle.listing.proofs.Nodes.{nodes_length}
 use Rattle.listing.proofs.Stores.{next}
@@ -23,15 +22,6 @@ marks_length bytes = length-map bytes is_mark
 pub marks_at : (bytes : List ℕ) (i : ℕ) → marked (marks_of bytes) i ≡ is_mark (get_or bytes i 0)
 unfolding marks_of
 marks_at bytes i = get_or-map is_mark bytes i 0
-
--- a map has as many places as bytes that are marks
-pub places_counted : (bytes : List ℕ) → places (marks_of bytes) ≡ count_by is_mark bytes
-unfolding marks_of
-places_counted bytes = is_count_by (λ (xs : List ℕ). places (marks_of xs)) is_mark refl (λ x xs. counts (is_mark x) (marks_of xs)) bytes
-  where
-    counts : (b : Bool) (ms : Marks) → places (b ∷ ms) ≡ cond b (1 + places ms) (places ms)
-    counts true ms = omega arith
-    counts false ms = refl
 
 places_step : (b : Bool) (ms : Marks) (k : ℕ) → next_after b k + places ms ≡ k + places (b ∷ ms)
 places_step true ms k = omega arith
@@ -61,3 +51,13 @@ module _ (bytes : List ℕ) (i k : ℕ) {b : Bool} (h : i < length bytes) (is : 
 
   pub no_more : b ≡ false → k + places (drop (i + 1) (marks_of bytes)) ≡ k + places (drop i (marks_of bytes))
   no_more e = ap (λ (m : Bool). next_after m k + places (drop (i + 1) (marks_of bytes))) (sym e) ∙ counted
+
+-- the places counted, and those left, past a byte that counts as one where it is a mark
+pub count_next : (bytes : List ℕ) (i k n : ℕ) → i < length bytes → n ≡ bool_byte (is_mark (get_or bytes i 0))
+    → (n ≤ 1) × (k + n + places (drop (i + 1) (marks_of bytes)) ≡ k + places (drop i (marks_of bytes)))
+count_next bytes i k n h e = go (is_mark (get_or bytes i 0)) e (sym (marks_at bytes i))
+  where
+    go : (b : Bool) → n ≡ bool_byte b → b ≡ marked (marks_of bytes) i
+        → (n ≤ 1) × (k + n + places (drop (i + 1) (marks_of bytes)) ≡ k + places (drop i (marks_of bytes)))
+    go true e is = let left = one_more bytes i k h is refl in (omega (arith, e), omega (arith, e, left))
+    go false e is = let left = no_more bytes i k h is refl in (omega (arith, e), omega (arith, e, left))

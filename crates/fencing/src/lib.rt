@@ -14,12 +14,15 @@ ghost use Rattle.fencing.specs.Inner.Putting.{kept_as, fence_if, next_after};
 
 use listing::{Kind, Listing, NONE};
 
-// How many fences the map asks for.
-#[tactic(auto, using(crate::proofs::Marks::places_counted))]
+// How many fences the map asks for. No `filter` and `count`, which jump at each byte that is no mark: writing counts three times.
 pub fn places(map: &[u8]) -> usize
     ensures { (result ≡ places (marks_of map.now)) × (result ≤ length map.now) }
 {
-    map.iter().filter(|byte| **byte == 1).count()
+    let mut count = 0;
+    for byte in map {
+        count += usize::from(*byte == 1);
+    }
+    count
 }
 
 // A listing and a map of it, with few enough places.
